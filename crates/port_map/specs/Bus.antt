@@ -12,10 +12,11 @@ use Rattle.fork_port.specs.declared.commands.Effect.TheVariants.{Done, TimeWritt
 use Rattle.fork_port.specs.Children.{child_registers}
 use Rattle.fork_port.specs.Registers as fork
 use Rattle.fork_port.specs.Registers.{ForkRegisters}
-use Rattle.fork_port.specs.Fork.{GrantsTicket, fork_load, fork_store}
+use Rattle.fork_port.specs.Fork.{ForkStored, GrantsTicket, fork_load, fork_store}
 use Rattle.sibling_port.specs.declared.talk.Talk.{Talk}
 use Rattle.sibling_port.specs.Registers as sibling
 use Rattle.sibling_port.specs.Registers.{SiblingRegisters}
+use Rattle.sibling_port.specs.Commands.{SiblingStored}
 use Rattle.sibling_port.specs.Sibling.{sibling_load, sibling_store}
 use Rattle.port_map.specs.declared.fields.PortFields.{PortFields}
 use Rattle.port_map.specs.declared.place.Place.{Place}
@@ -40,8 +41,8 @@ with_block ports block = record { console = ports.console; timer = ports.timer; 
 -- ---- what they start with
 
 -- in a machine that starts with this block port and this input, and may have so many clones. It has no siblings
-abbrev pub at_start : {Block : Type 0} → Block → List ℕ → ℕ → PortsWith Block
-at_start block input allot = record {
+abbrev pub ports_at_start : {Block : Type 0} → Block → List ℕ → ℕ → PortsWith Block
+ports_at_start block input allot = record {
   console = record { input = input; place = 0; output = []; line_control = 0 };
   timer = timer.at_start;
   block = block;
@@ -50,8 +51,8 @@ at_start block input allot = record {
 }
 
 -- in child k of so many, with this share: what its parent has, but for a fork port and a sibling port of its own, and no output
-abbrev pub of_child : ℕ → ℕ → ℕ → PortRegisters → PortRegisters
-of_child k children share ports = record ports {
+abbrev pub ports_of_child : ℕ → ℕ → ℕ → PortRegisters → PortRegisters
+ports_of_child k children share ports = record ports {
   console = record ports.console { output = [] };
   fork = child_registers ports.fork k share;
   sibling = sibling.at_start children;
@@ -66,8 +67,8 @@ fields_of ports = record {
   fork = fork.fields_of ports.fork;
 }
 
-abbrev pub of_fields : {Block : Type 0} → PortFields → Block → List ℕ → ℕ → PortsWith Block
-of_fields fields block input children = record {
+abbrev pub ports_of_fields : {Block : Type 0} → PortFields → Block → List ℕ → ℕ → PortsWith Block
+ports_of_fields fields block input children = record {
   console = record { input = input; place = fields.console.place; output = []; line_control = fields.console.line_control };
   timer = fields.timer;
   block = block;
@@ -113,6 +114,12 @@ abbrev pub talk_effect : Option Talk → Effect
 talk_effect None = Done
 talk_effect (Some talk) = talks talk
 
+abbrev pub fork_stored : PortRegisters → ForkStored → Stored
+fork_stored ports stored = record { ports = record ports { fork = stored.fork }; effect = stored.effect }
+
+abbrev pub sibling_stored : PortRegisters → SiblingStored → Stored
+sibling_stored ports stored = record { ports = record ports { sibling = stored.port }; effect = talk_effect stored.talk }
+
 abbrev pub store_at : Place → PortRegisters → ℕ → ℕ → Option Stored
 store_at (place.Console offset) ports width word =
     option_map (λ console. record { ports = record ports { console = console }; effect = Done }) (console_store ports.console offset width word)
@@ -120,12 +127,10 @@ store_at (place.Timer offset) ports width word =
     option_map (λ timer. record { ports = record ports { timer = timer }; effect = timer_effect offset }) (timer_store ports.timer offset width word)
 store_at (place.Block offset) ports width word =
     option_map (λ block. record { ports = record ports { block = block }; effect = Done }) (block_store ports.block offset width word)
-store_at (place.Fork offset) ports width word =
-    option_map (λ stored. record { ports = record ports { fork = stored.fork }; effect = stored.effect }) (fork_store ports.fork offset width word)
+store_at (place.Fork offset) ports width word = option_map (fork_stored ports) (fork_store ports.fork offset width word)
 -- the number of the machine among its siblings is that of the fork port
 store_at (place.Sibling offset) ports width word =
-    option_map (λ stored. record { ports = record ports { sibling = stored.port }; effect = talk_effect stored.talk })
-    (sibling_store ports.fork.clone_id ports.sibling offset width word)
+    option_map (sibling_stored ports) (sibling_store ports.fork.clone_id ports.sibling offset width word)
 store_at place.NoPort ports width word = None
 
 -- a store of the low `width` bytes of a word

@@ -11,7 +11,7 @@ use Rattle.port_map.specs.declared.fields.PortFields.{PortFields}
 use Rattle.port_map.specs.declared.place.Place.{Place}
 use Rattle.port_map.specs.declared.place.Place.TheVariants as place
 use Rattle.port_map.specs.Ranges.{place_of}
-use Rattle.port_map.specs.Bus.{PortRegisters, PortsWith, at_start, of_fields, with_block}
+use Rattle.port_map.specs.Bus.{PortRegisters, PortsWith, ports_at_start, ports_of_fields, with_block}
 
 -- the ports, with a disk of which pages may be absent
 abbrev pub BusParts : Type 0
@@ -23,12 +23,12 @@ bus_over b below = with_block b (block_over b.block below)
 
 -- the ports of a machine that starts with this disk and this input, and may have so many clones
 abbrev pub parts_at_boot : PagedDisk → List ℕ → ℕ → BusParts
-parts_at_boot disk input allot = at_start (parts_at_start disk) input allot
+parts_at_boot disk input allot = ports_at_start (parts_at_start disk) input allot
 
 -- those that are made of plain numbers, with this disk and this input, of a child of a ticket for so many
 abbrev pub parts_of_fields : PortFields → PagedDisk → List ℕ → ℕ → BusParts
 parts_of_fields fields disk input children =
-    of_fields fields (record { sector = fields.block.sector; status = fields.block.status; buffer = fields.block.buffer; disk = disk }) input children
+    ports_of_fields fields (record { sector = fields.block.sector; status = fields.block.status; buffer = fields.block.buffer; disk = disk }) input children
 
 -- A store that is a call, a talk, EXIT with bytes or ZERO changes nothing yet, since the machine makes it. The call can be
 -- made, the talk names a sibling, and the bytes are not too many.

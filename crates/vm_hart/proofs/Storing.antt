@@ -14,7 +14,7 @@ use Rattle.forest_model.specs.Action.{ask, speak, exit, retire, retire_next, wit
 use Rattle.forest_model.specs.Footprint.{no_change, no_footprint, zeroes}
 use Rattle.forest_model.specs.Memory.{Outcome, bytes_at, effect_outcome, is_byte_range, is_page_range, needs_at, outcome, port_outcome, read_action, stored_outcome, zeroed}
 use Rattle.forest_model.specs.Paged.{Pages, pages_after}
-use Rattle.forest_model.specs.Ports.{port_load, port_store}
+use Rattle.port_map.specs.Bus.{port_load, port_store}
 use Rattle.forest_model.specs.State.{State, at_next_instruction}
 use Rattle.vm_hart.specs.Acts.{Acts, HandsOver, HasActed, HasChanged, HasRead, HasStored, IsMet, StoreGrows, TakesMemory, Tells, WaitsAt, bytes_needs}
 use Rattle.vm_hart.specs.Keyed.{KeyedState}
