@@ -1,6 +1,6 @@
 //! The port that an address is of.
 
-ghost use Rattle.std.specs.Prelude.{◌≡◌, ◌+◌, ◌-◌, ◌^◌, ◌<◌, true, false, IfNone, IfSome};
+ghost use Rattle.std.specs.Prelude.{◌≡◌, ◌+◌, ◌^◌, ◌<◌, ◌≤◌, IsTrue};
 ghost use Rattle.port_map.specs.Ranges.{IsAt, is_within, place_of};
 
 use block_port::registers::BLOCK_SIZE;
@@ -38,39 +38,36 @@ pub enum Place {
 }
 
 /// The port that an address is of, if it is of one.
+#[tactic(auto, using(crate::proofs::Ranges::first_place, crate::proofs::Ranges::later_place, crate::proofs::Ranges::no_place))]
 #[inline]
 pub fn place_of(address: u32) -> Place
     ensures value { result ≡ place_of address }
     ensures offset { IsAt address result }
 {
-    if let Some(offset) = offset_within(CONSOLE_BASE, CONSOLE_SIZE, address) {
-        return Place::Console(offset);
+    if is_within(CONSOLE_BASE, CONSOLE_SIZE, address) {
+        return Place::Console(address - CONSOLE_BASE);
     }
-    if let Some(offset) = offset_within(TIMER_BASE, TIMER_SIZE, address) {
-        return Place::Timer(offset);
+    if is_within(TIMER_BASE, TIMER_SIZE, address) {
+        return Place::Timer(address - TIMER_BASE);
     }
-    if let Some(offset) = offset_within(BLOCK_BASE, BLOCK_SIZE, address) {
-        return Place::Block(offset);
+    if is_within(BLOCK_BASE, BLOCK_SIZE, address) {
+        return Place::Block(address - BLOCK_BASE);
     }
-    if let Some(offset) = offset_within(FORK_BASE, FORK_SIZE, address) {
-        return Place::Fork(offset);
+    if is_within(FORK_BASE, FORK_SIZE, address) {
+        return Place::Fork(address - FORK_BASE);
     }
-    if let Some(offset) = offset_within(SIBLING_BASE, SIBLING_SIZE, address) {
-        return Place::Sibling(offset);
+    if is_within(SIBLING_BASE, SIBLING_SIZE, address) {
+        return Place::Sibling(address - SIBLING_BASE);
     }
     Place::NoPort
 }
 
-/// The offset of an address from the first of a range of addresses, if it is one of them.
+/// Whether an address is one of a range of so many.
 #[inline]
-fn offset_within(base: u32, size: u32, address: u32) -> Option<u32>
+fn is_within(base: u32, size: u32, address: u32) -> bool
     requires { base + size < 2 ^ 32 }
-    ensures within { IfSome result (λ offset. (is_within base size address ≡ true) × (offset ≡ address - base) × (address ≡ base + offset)) }
-    ensures outside { IfNone result (is_within base size address ≡ false) }
+    ensures value { result ≡ is_within base size address }
+    ensures above { IsTrue result → base ≤ address }
 {
-    if base <= address && address < base + size {
-        Some(address - base)
-    } else {
-        None
-    }
+    base <= address && address < base + size
 }
