@@ -25,10 +25,9 @@ use Rattle.sibling_port.specs.Registers.{SiblingRegisters}
 use Rattle.sibling_port.specs.Commands.{HasSibling, SiblingStored, named}
 use Rattle.sibling_port.specs.Sibling.{sibling_store}
 use Rattle.sibling_port.proofs.Stores.{waits}
-use Rattle.port_map.specs.declared.place.Place.{Place}
-use Rattle.port_map.specs.declared.place.Place.TheVariants.{Fork as at_fork, Sibling as at_sibling}
-use Rattle.port_map.specs.Ranges.{place_of}
-use Rattle.port_map.specs.Bus.{PortRegisters, Read, Stored, fork_stored, port_load, port_store, sibling_stored, store_at, talk_effect}
+use Rattle.port_map.specs.declared.Place.{Place}
+use Rattle.port_map.specs.declared.Place.TheVariants.{Fork as at_fork, Sibling as at_sibling}
+use Rattle.port_map.specs.Bus.{PortRegisters, Read, Stored, fork_stored, place_of, port_load, port_store, sibling_stored, store_at, talk_effect}
 use Rattle.port_map.proofs.Quiet.{Leaves, StoresQuietly, load-leaves, no-call, no-talk, stores-quietly}
 use Rattle.forest_model.specs.State.{State, is_timer_due, at_next_instruction}
 use Rattle.forest_model.specs.Action.{Action, trap, interrupt, retire, exit, ask, speak, rs1, rs2}

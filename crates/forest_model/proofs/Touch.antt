@@ -27,10 +27,9 @@ use Rattle.fork_port.specs.declared.commands.Effect.TheVariants.{Done, TimeWritt
 use Rattle.cow_disk.specs.Disk.{sector_count}
 use Rattle.cow_disk.specs.Paged.{disk_pages, page_of_sector}
 use Rattle.block_port.specs.Block.{BlockRegisters, is_sector_command}
-use Rattle.port_map.specs.declared.place.Place.{Place}
-use Rattle.port_map.specs.declared.place.Place.TheVariants.{Block as at_block, Fork as at_fork, Sibling as at_sibling}
-use Rattle.port_map.specs.Ranges.{place_of}
-use Rattle.port_map.specs.Bus.{Read, Stored, disk_page_at, port_load, port_store, store_at}
+use Rattle.port_map.specs.declared.Place.{Place}
+use Rattle.port_map.specs.declared.Place.TheVariants.{Block as at_block, Fork as at_fork, Sibling as at_sibling}
+use Rattle.port_map.specs.Bus.{Read, Stored, disk_page_at, place_of, port_load, port_store, store_at}
 use Rattle.port_map.proofs.Quiet.{IsQuiet, StoresQuietly, by-quiet, stores-quietly}
 use Rattle.forest_model.specs.declared.access.Access.{Access}
 use Rattle.forest_model.specs.declared.access.Direction.{Direction}

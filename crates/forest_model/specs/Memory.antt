@@ -18,9 +18,8 @@ use Rattle.fork_port.specs.declared.refusals.TheConstants.{BAD_ARGUMENT}
 use Rattle.fork_port.specs.Registers.{ForkRegisters, refused}
 use Rattle.sibling_port.specs.Registers.{SiblingRegisters}
 use Rattle.forest_model.specs.Footprint.{Page, Footprint, no_footprint, no_change, zeroes}
-use Rattle.port_map.specs.declared.place.Place.{Place}
-use Rattle.port_map.specs.Ranges.{place_of}
-use Rattle.port_map.specs.Bus.{Read, Stored, disk_page_at, port_load, port_store}
+use Rattle.port_map.specs.declared.Place.{Place}
+use Rattle.port_map.specs.Bus.{Read, Stored, disk_page_at, place_of, port_load, port_store}
 use Rattle.forest_model.specs.State.{State, at_next_instruction}
 use Rattle.forest_model.specs.Action.{Action, trap, retire, exit, ask, speak, retire_next, with_rd, rs1, rs2, immediate}
 use Rattle.forest_model.specs.Access.{Reached, faulted, of_ram, of_port, reached, page_of}

@@ -6,8 +6,8 @@ use Rattle.fork_port.specs.declared.commands.Call.{Call}
 use Rattle.fork_port.specs.declared.commands.Effect.{Effect}
 use Rattle.fork_port.specs.declared.commands.Effect.TheVariants as effect
 use Rattle.sibling_port.specs.declared.talk.Talk.{Talk}
-use Rattle.port_map.specs.declared.place.Place.{Place}
-use Rattle.port_map.specs.declared.place.Place.TheVariants as place
+use Rattle.port_map.specs.declared.Place.{Place}
+use Rattle.port_map.specs.declared.Place.TheVariants as place
 use Rattle.port_map.specs.Bus.{PortRegisters, Read, Stored, load_at, store_at}
 
 -- what holds of each value that is made holds of the answer

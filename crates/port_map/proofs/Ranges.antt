@@ -1,9 +1,10 @@
 -- The place of an address, by the first range that has it.
 use Rattle.std.proofs.Common.{◌≡◌, ℕ, ◌+◌, ◌-◌, Bool, true, false, cond, List, [], ◌∷◌, refl, arith}
 use Rattle.std.proofs.lemmas.Bool.Decides.{nat_tests}
-use Rattle.port_map.specs.declared.place.Place.{Place}
-use Rattle.port_map.specs.declared.place.Place.TheVariants.{NoPort}
-use Rattle.port_map.specs.Ranges.{IsAt, Range, is_within, place_in, place_of, ranges}
+use Rattle.port_map.specs.declared.Place.{Place}
+use Rattle.port_map.specs.declared.Place.TheVariants.{NoPort}
+use Rattle.port_map.specs.Ranges.{Range, is_within, place_in}
+use Rattle.port_map.specs.Bus.{IsAt, place_of, ranges}
 
 -- ---- what `place_of` tests one after the other
 

@@ -1,6 +1,6 @@
 -- The bus: the registers of all ports of a machine, what a load and a store of an address are, and what a store asks for.
 -- An access that no port has is none.
-use Rattle.std.specs.Prelude.{◌<◌, ℕ, if◌then◌else◌, List, [], length, Option, Some, None, IsSomeAnd}
+use Rattle.std.specs.Prelude.{◌≡◌, ◌<◌, ◌+◌, ℕ, if◌then◌else◌, List, [], ◌∷◌, length, Option, Some, None, IsSomeAnd}
 use Rattle.std.specs.Option.{option_map}
 use Rattle.console_port.specs.Console.{ConsoleRegisters, console_load, console_store}
 use Rattle.timer_port.specs.declared.registers.TimerRegisters.{TimerRegisters}
@@ -18,10 +18,42 @@ use Rattle.sibling_port.specs.Registers as sibling
 use Rattle.sibling_port.specs.Registers.{SiblingRegisters}
 use Rattle.sibling_port.specs.Commands.{SiblingStored}
 use Rattle.sibling_port.specs.Sibling.{sibling_load, sibling_store}
-use Rattle.port_map.specs.declared.fields.PortFields.{PortFields}
-use Rattle.port_map.specs.declared.place.Place.{Place}
-use Rattle.port_map.specs.declared.place.Place.TheVariants as place
-use Rattle.port_map.specs.Ranges.{place_of}
+use Rattle.port_map.specs.declared.PortFields.{PortFields}
+use Rattle.block_port.specs.declared.registers.TheConstants.{BLOCK_SIZE}
+use Rattle.console_port.specs.declared.registers.TheConstants.{CONSOLE_SIZE}
+use Rattle.fork_port.specs.declared.registers.TheConstants.{FORK_SIZE}
+use Rattle.sibling_port.specs.declared.registers.TheConstants.{SIBLING_SIZE}
+use Rattle.port_map.specs.declared.TheConstants.{BLOCK_BASE, CONSOLE_BASE, FORK_BASE, SIBLING_BASE, TIMER_BASE, TIMER_SIZE}
+use Rattle.port_map.specs.declared.Place.{Place}
+use Rattle.port_map.specs.declared.Place.TheVariants as place
+use Rattle.port_map.specs.Ranges.{Range, place_in}
+
+-- ---- where the ports lie
+
+-- the addresses of each port
+abbrev pub ranges : List Range
+ranges =
+    record { base = CONSOLE_BASE; size = CONSOLE_SIZE; place = place.Console }
+    ∷ record { base = TIMER_BASE; size = TIMER_SIZE; place = place.Timer }
+    ∷ record { base = BLOCK_BASE; size = BLOCK_SIZE; place = place.Block }
+    ∷ record { base = FORK_BASE; size = FORK_SIZE; place = place.Fork }
+    ∷ record { base = SIBLING_BASE; size = SIBLING_SIZE; place = place.Sibling }
+    ∷ []
+
+-- the port that an address is of, with the offset there, if it is of one
+abbrev pub place_of : ℕ → Place
+place_of address = place_in ranges address
+
+-- the address is that of the place
+abbrev pub IsAt : ℕ → Place → Type 0
+IsAt address (place.Console offset) = address ≡ CONSOLE_BASE + offset
+IsAt address (place.Timer offset) = address ≡ TIMER_BASE + offset
+IsAt address (place.Block offset) = address ≡ BLOCK_BASE + offset
+IsAt address (place.Fork offset) = address ≡ FORK_BASE + offset
+IsAt address (place.Sibling offset) = address ≡ SIBLING_BASE + offset
+IsAt address place.NoPort = Unit {0}
+
+-- ---- their registers
 
 -- the ports of a machine. What its block port holds is `Block`, since pages of the disk may be absent
 pub record PortsWith (Block : Type 0) : Type 0 where

@@ -7,11 +7,10 @@ use Rattle.fork_port.specs.declared.commands.Effect.TheVariants.{Done, TimeWritt
 use Rattle.fork_port.specs.declared.handed.TheConstants.{MAX_HANDED}
 use Rattle.fork_port.specs.Commands.{IsMakeable}
 use Rattle.sibling_port.specs.Commands.{HasSibling, named}
-use Rattle.port_map.specs.declared.fields.PortFields.{PortFields}
-use Rattle.port_map.specs.declared.place.Place.{Place}
-use Rattle.port_map.specs.declared.place.Place.TheVariants as place
-use Rattle.port_map.specs.Ranges.{place_of}
-use Rattle.port_map.specs.Bus.{PortRegisters, PortsWith, ports_at_start, ports_of_fields, with_block}
+use Rattle.port_map.specs.declared.PortFields.{PortFields}
+use Rattle.port_map.specs.declared.Place.{Place}
+use Rattle.port_map.specs.declared.Place.TheVariants as place
+use Rattle.port_map.specs.Bus.{PortRegisters, PortsWith, place_of, ports_at_start, ports_of_fields, with_block}
 
 -- the ports, with a disk of which pages may be absent
 abbrev pub BusParts : Type 0

@@ -9,8 +9,7 @@ ghost use Rattle.fork_port.specs.Registers.{HasTicket, refused, ticket_found, ti
 ghost use Rattle.fork_port.specs.Children.{after_clone, after_join, after_kill, child_registers};
 ghost use Rattle.sibling_port.specs.Commands.{sibling_command};
 ghost use Rattle.sibling_port.specs.Registers.{talked};
-ghost use Rattle.port_map.specs.Ranges.{place_of};
-ghost use Rattle.port_map.specs.Bus.{disk_page_at, fields_of, load_at, port_load, port_store, store_at, talk_effect, WantsMemory, WantsMemoryAt};
+ghost use Rattle.port_map.specs.Bus.{disk_page_at, fields_of, load_at, place_of, port_load, port_store, store_at, talk_effect, WantsMemory, WantsMemoryAt};
 ghost use Rattle.vm_bus.specs.Bus.{bus_over, parts_at_boot, parts_of_fields, IsDiskPageHere, IsDiskPageHereAt, Waits};
 
 use block_port::BlockPort;

@@ -18,16 +18,16 @@ use Rattle.guest_pmp.specs.Allowed.{is_machine}
 use Rattle.guest_pmp.specs.Registers.{IsNumber}
 use Rattle.fork_port.specs.declared.ending.Ending.{Ending}
 use Rattle.console_port.specs.declared.registers.TheConstants.{CONSOLE_SIZE}
-use Rattle.port_map.specs.declared.place.TheConstants.{CONSOLE_BASE}
+use Rattle.port_map.specs.declared.TheConstants.{CONSOLE_BASE}
 use Rattle.forest_model.specs.State.{State, at_next_instruction, is_in_ram, is_timer_due}
 use Rattle.forest_model.specs.Action.{Action, trap, interrupt, retire, exit, ask, speak, immediate, rs2}
 use Rattle.forest_model.specs.Access.{Reached, faulted, of_ram, of_port, page_of, reached, fetch_access}
 use Rattle.forest_model.specs.Memory.{data_address, outcome, stored_outcome, store, store_access, store_action, store_by, stored_bytes}
-use Rattle.port_map.specs.Bus.{PortRegisters, Stored, port_store, store_at}
+use Rattle.port_map.specs.Bus.{PortRegisters, Stored, place_of, port_store, store_at}
 use Rattle.port_map.proofs.Quiet.{StoresQuietly, by-quiet, stores-quietly}
-use Rattle.port_map.specs.declared.place.Place.{Place}
-use Rattle.port_map.specs.declared.place.Place.TheVariants.{Console as at_console}
-use Rattle.port_map.specs.Ranges.{is_within, place_in, place_of}
+use Rattle.port_map.specs.declared.Place.{Place}
+use Rattle.port_map.specs.declared.Place.TheVariants.{Console as at_console}
+use Rattle.port_map.specs.Ranges.{is_within, place_in}
 use Rattle.forest_model.specs.System.{csr_access, csr_value, old_action, old_value, operand, operation_of, reads, returned_action, trap_return, write_action, writes, written_action}
 use Rattle.forest_model.specs.Execute.{action, action_by, decoded_action, execute, execute_group, fetch_action, fetched}
 use Rattle.forest_model.specs.Machine.{Machine, advance, advance_from, applied}

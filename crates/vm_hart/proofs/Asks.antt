@@ -30,11 +30,11 @@ use Rattle.sibling_port.specs.Registers.{SiblingRegisters}
 use Rattle.sibling_port.specs.Commands.{SiblingStored, sibling_command}
 use Rattle.sibling_port.specs.Commands as sibling_port
 use Rattle.sibling_port.specs.Sibling.{sibling_store}
-use Rattle.port_map.specs.declared.place.TheConstants.{FORK_BASE, SIBLING_BASE}
-use Rattle.port_map.specs.declared.place.Place.{Place}
-use Rattle.port_map.specs.declared.place.Place.TheVariants.{Fork as at_fork, Sibling as at_sibling}
-use Rattle.port_map.specs.Ranges.{IsAt, place_in, place_of}
-use Rattle.port_map.specs.Bus.{PortRegisters, Read, Stored, fork_stored, port_load, port_store, sibling_stored, store_at, talk_effect}
+use Rattle.port_map.specs.declared.TheConstants.{FORK_BASE, SIBLING_BASE}
+use Rattle.port_map.specs.declared.Place.{Place}
+use Rattle.port_map.specs.declared.Place.TheVariants.{Fork as at_fork, Sibling as at_sibling}
+use Rattle.port_map.specs.Ranges.{place_in}
+use Rattle.port_map.specs.Bus.{IsAt, PortRegisters, Read, Stored, fork_stored, place_of, port_load, port_store, sibling_stored, store_at, talk_effect}
 use Rattle.port_map.proofs.Ranges.{at-place}
 use Rattle.port_map.proofs.Quiet.{StoresQuietly, by-quiet, stores-quietly}
 use Rattle.forest_model.specs.State.{State, is_timer_due, at_next_instruction}

@@ -14,8 +14,8 @@ use Rattle.fork_port.specs.declared.commands.Effect.TheVariants as effect
 use Rattle.image_depot.specs.Key.{Key}
 use Rattle.rv_traps.specs.declared.registers.CsrRegisters.{CsrRegisters}
 use Rattle.guest_mem.specs.Ram.{IsDiskBased, Ram, disk_below}
-use Rattle.port_map.specs.declared.place.Place.{Place}
-use Rattle.port_map.specs.declared.place.Place.TheVariants.{Block as at_block}
+use Rattle.port_map.specs.declared.Place.{Place}
+use Rattle.port_map.specs.declared.Place.TheVariants.{Block as at_block}
 use Rattle.forest_model.specs.Memory.{needs_at, page_on_disk, pages_on_disk}
 use Rattle.forest_model.specs.Paged.{Pages}
 use Rattle.port_map.specs.Bus.{PortRegisters, disk_page_at}

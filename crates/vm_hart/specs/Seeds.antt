@@ -2,7 +2,7 @@
 use Rattle.std.specs.Prelude.{◌≡◌, ℕ, ◌*◌, ◌/◌, Bool, false, List, ◌∷◌, ◌++◌, length, drop, Some}
 use Rattle.page_frames.specs.declared.page.TheConstants.{PAGE_SIZE}
 use Rattle.block_port.specs.Block.{BlockRegisters}
-use Rattle.port_map.specs.declared.fields.PortFields.{PortFields}
+use Rattle.port_map.specs.declared.PortFields.{PortFields}
 use Rattle.port_map.specs.Bus.{ports_of_fields}
 use Rattle.vm_descriptor.specs.declared.descriptor.Descriptor.{Descriptor}
 use Rattle.vm_descriptor.specs.Descriptor.{IsInRange}

@@ -2,8 +2,7 @@
 
 ghost use Rattle.std.specs.Prelude.{◌≡◌, ◌<◌, IfOk, IfSome, IsErr, IsErrOf, IsNone, None, OnErr};
 ghost use Rattle.forest_model.specs.Memory.{needs_at};
-ghost use Rattle.port_map.specs.Ranges.{place_of};
-ghost use Rattle.port_map.specs.Bus.{port_load, port_store, WantsMemory};
+ghost use Rattle.port_map.specs.Bus.{place_of, port_load, port_store, WantsMemory};
 ghost use Rattle.vm_hart.specs.Acts.{HasRead, HasStored, IsMet, WaitsAt};
 
 use super::Hart;

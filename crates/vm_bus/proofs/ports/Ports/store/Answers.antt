@@ -1,7 +1,6 @@
 use Rattle.std.proofs.Common.{◌≡◌, ◌↔◌, List, ℕ, Some, None, IfOk, IsErrOf, subst, sym}
 use Rattle.port_error.specs.declared.PortError.TheVariants.{Fault}
-use Rattle.port_map.specs.Ranges.{IsAt}
-use Rattle.port_map.specs.Bus.{WantsMemoryAt, port_store, store_at}
+use Rattle.port_map.specs.Bus.{IsAt, WantsMemoryAt, port_store, store_at}
 use Rattle.vm_bus.specs.Bus.{bus_over, IsDiskPageHereAt}
 use Rattle.vm_bus.proofs.ports.Ports.store.Goals as goal
 

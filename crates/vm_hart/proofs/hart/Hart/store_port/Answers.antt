@@ -1,7 +1,6 @@
 use Rattle.std.proofs.Common.{length, refl, sym, ap, ◌∙◌, subst}
-use Rattle.port_map.specs.Ranges.{place_of}
+use Rattle.port_map.specs.Bus.{WantsMemory, place_of, port_store}
 use Rattle.guest_mem.specs.Ram.{disk_below}
-use Rattle.port_map.specs.Bus.{WantsMemory, port_store}
 use Rattle.vm_bus.specs.Bus.{BusParts}
 use Rattle.vm_hart.specs.Acts.{LeavesTo}
 use Rattle.vm_hart.specs.Hart.{hart_of}

@@ -1,7 +1,6 @@
 use Rattle.std.proofs.Common.{◌+◌, ◌<◌, length, sym, ap, ◌∙◌, subst, arith}
-use Rattle.port_map.specs.Ranges.{place_of}
+use Rattle.port_map.specs.Bus.{disk_page_at, place_of}
 use Rattle.cow_disk.specs.Paged.{PagedDisk}
-use Rattle.port_map.specs.Bus.{disk_page_at}
 use Rattle.forest_model.specs.Memory.{needs_at, pages_on_disk}
 use Rattle.guest_mem.specs.Ram.{disk_below}
 use Rattle.vm_hart.specs.Acts.{IsMet, WaitsAt}
