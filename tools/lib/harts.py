@@ -3,33 +3,17 @@ mode, the control and status registers, memory protection and the timer, which a
 
 from lib import ports
 from lib.instructions import CSRS, ENTRIES, Instruction, decode, signed
-from lib.ports import BLOCK, CONSOLE, EXIT_BYTES, FORK, RAM, RECEIVE, SECTOR_SIZE, SEND, SIBLING, TIMER
+from lib.ports import CONSOLE, EXIT_BYTES, FORK, RAM, RECEIVE, SEND, SIBLING, TIMER, WORDS
 
 # A trap: its cause, its value, and which entry of memory protection made it, in words, or None.
 Trap = tuple[int, int, str | None]
 
 MSTATUS, MIE, MTVEC, MSCRATCH, MEPC, MCAUSE, MTVAL = 0x300, 0x304, 0x305, 0x340, 0x341, 0x342, 0x343
 
-# The registers of the ports that are words: name, and whether it is loaded and stored.
 MTIMECMP, MTIMECMPH = TIMER + ports.MTIMECMP, TIMER + ports.MTIMECMPH
 MTIME, MTIMEH = TIMER + ports.MTIME, TIMER + ports.MTIMEH
 ARG0, ARG1, COMMAND = FORK + ports.ARG0, FORK + ports.ARG1, FORK + ports.COMMAND
 PEER, DATA, TALK = SIBLING + ports.PEER, SIBLING + ports.DATA, SIBLING + ports.TALK
-WORDS = {
-    MTIMECMP: ("mtimecmp", "ls"), MTIMECMPH: ("mtimecmph", "ls"), MTIME: ("mtime", "ls"), MTIMEH: ("mtimeh", "ls"),
-    BLOCK + ports.SECTOR: ("SECTOR", "ls"), BLOCK + ports.BLOCK_COMMAND: ("disk COMMAND", "s"),
-    BLOCK + ports.STATUS: ("STATUS", "l"), BLOCK + ports.COUNT: ("COUNT", "l"),
-    ARG0: ("ARG0", "ls"), ARG1: ("ARG1", "ls"), COMMAND: ("COMMAND", "s"), FORK + ports.RESULT: ("RESULT", "l"),
-    FORK + ports.CLONE_ID: ("CLONE ID", "l"), FORK + ports.ALLOT: ("ALLOT", "l"), FORK + ports.JSEL: ("JSEL", "ls"),
-    FORK + ports.JKIND: ("JKIND", "l"), FORK + ports.JVALUE: ("JVALUE", "l"), FORK + ports.GRANTED: ("GRANTED", "l"),
-    FORK + ports.JLEN: ("JLEN", "l"),
-    PEER: ("PEER", "ls"), DATA: ("DATA", "ls"), TALK: ("sibling COMMAND", "s"),
-    SIBLING + ports.TALK_RESULT: ("sibling RESULT", "l"), SIBLING + ports.SIBLINGS: ("SIBLINGS", "l"),
-}  # fmt: skip
-for number in range(SECTOR_SIZE // 4):
-    WORDS[BLOCK + ports.BUFFER + 4 * number] = (f"buffer[{number}]", "ls")
-for number in range(16):
-    WORDS[FORK + ports.JBYTES + 4 * number] = (f"JBYTES[{number}]", "l")
 COMMANDS = {getattr(ports, name): name for name in ("TICKET", "CLONE", "JOIN", "KILL", "EXIT", "ZERO")}
 WIDTHS = {"lb": 1, "lbu": 1, "sb": 1, "lh": 2, "lhu": 2, "sh": 2}
 

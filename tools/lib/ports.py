@@ -24,3 +24,18 @@ NO_TICKET, CLONED, NOT_CLONED, BAD_ARGUMENT, NO_ALLOT, NO_COMMAND, ENDED = range
 SIBLING = 0x10003000
 PEER, DATA, TALK, TALK_RESULT, SIBLINGS = range(0, 20, 4)
 SEND, RECEIVE = 1, 2
+
+# The registers that are words, by address: name, and whether it is loaded and stored.
+WORDS = {
+    TIMER + MTIMECMP: ("mtimecmp", "ls"), TIMER + MTIMECMPH: ("mtimecmph", "ls"),
+    TIMER + MTIME: ("mtime", "ls"), TIMER + MTIMEH: ("mtimeh", "ls"),
+    BLOCK + SECTOR: ("SECTOR", "ls"), BLOCK + BLOCK_COMMAND: ("disk COMMAND", "s"),
+    BLOCK + STATUS: ("STATUS", "l"), BLOCK + COUNT: ("COUNT", "l"),
+    FORK + ARG0: ("ARG0", "ls"), FORK + ARG1: ("ARG1", "ls"), FORK + COMMAND: ("COMMAND", "s"), FORK + RESULT: ("RESULT", "l"),
+    FORK + CLONE_ID: ("CLONE ID", "l"), FORK + ALLOT: ("ALLOT", "l"), FORK + JSEL: ("JSEL", "ls"),
+    FORK + JKIND: ("JKIND", "l"), FORK + JVALUE: ("JVALUE", "l"), FORK + GRANTED: ("GRANTED", "l"), FORK + JLEN: ("JLEN", "l"),
+    SIBLING + PEER: ("PEER", "ls"), SIBLING + DATA: ("DATA", "ls"), SIBLING + TALK: ("sibling COMMAND", "s"),
+    SIBLING + TALK_RESULT: ("sibling RESULT", "l"), SIBLING + SIBLINGS: ("SIBLINGS", "l"),
+}  # fmt: skip
+WORDS |= {BLOCK + BUFFER + 4 * number: (f"buffer[{number}]", "ls") for number in range(SECTOR_SIZE // 4)}
+WORDS |= {FORK + JBYTES + 4 * number: (f"JBYTES[{number}]", "l") for number in range(16)}

@@ -1,6 +1,6 @@
 -- What an instruction does to the fork port and the sibling port: nothing, or what one store to them does.
-use Rattle.std.proofs.Common.{◌≡◌, ◌≢◌, ℕ, ◌%◌, List, [], ◌∷◌, Bool, true, false, cond, eqb, Option, Some, None, refl, sym, ap, ◌∙◌, subst}
-use Rattle.std.specs.Option.{IfSome}
+use Rattle.std.proofs.Common.{◌≡◌, ◌≢◌, ℕ, ◌%◌, List, [], ◌∷◌, Bool, true, false, eqb, Option, Some, None, refl, sym, ap, ◌∙◌, subst}
+use Rattle.std.specs.Option.{IfSome, option_map}
 use Rattle.rv_decode.specs.Instruction.{Instruction}
 use Rattle.rv_decode.specs.Table.{decoded}
 use Rattle.rv_decode.specs.declared.kinds.Group.{Group}
@@ -11,10 +11,6 @@ use Rattle.rv_decode.specs.Kinds.{group_of}
 use Rattle.rv_exec.specs.Memory.{load_width, store_width}
 use Rattle.rv_traps.specs.Trap.{mret, takes_interrupt}
 use Rattle.rv_traps.specs.declared.registers.CsrRegisters.{CsrRegisters}
-use Rattle.console_port.specs.Console.{ConsoleRegisters, ConsoleLoaded, console_load, console_store}
-use Rattle.timer_port.specs.declared.registers.TimerRegisters.{TimerRegisters}
-use Rattle.timer_port.specs.Timer.{timer_load, timer_store, writes_mtime}
-use Rattle.block_port.specs.Block.{BlockRegisters, block_load, block_store}
 use Rattle.fork_port.specs.declared.commands.Call.{Call}
 use Rattle.fork_port.specs.declared.ending.Ending.{Ending}
 use Rattle.fork_port.specs.declared.commands.Effect.{Effect}
@@ -22,18 +18,17 @@ use Rattle.fork_port.specs.declared.commands.Effect.TheVariants as effect
 use Rattle.fork_port.specs.declared.refusals.TheConstants.{BAD_ARGUMENT}
 use Rattle.fork_port.specs.Registers.{ForkRegisters, refused}
 use Rattle.fork_port.specs.Commands.{IsMakeable}
-use Rattle.fork_port.specs.Fork.{ForkStored, fork_load, fork_store}
+use Rattle.fork_port.specs.Fork.{ForkStored, fork_store}
 use Rattle.fork_port.proofs.StoreLemmas.{call_stored, talk_stored}
 use Rattle.sibling_port.specs.declared.talk.Talk.{Talk}
 use Rattle.sibling_port.specs.Registers.{SiblingRegisters}
 use Rattle.sibling_port.specs.Commands.{HasSibling, SiblingStored, named}
-use Rattle.sibling_port.specs.Sibling.{sibling_load, sibling_store}
+use Rattle.sibling_port.specs.Sibling.{sibling_store}
 use Rattle.sibling_port.proofs.Stores.{waits}
-use Rattle.port_map.specs.declared.place.Place.{Place}
-use Rattle.port_map.specs.declared.place.Place.TheVariants.{Console as at_console, Timer as at_timer, Block as at_block, Fork as at_fork, Sibling as at_sibling, NoPort as at_no_port}
-use Rattle.port_map.specs.Ranges.{place_of}
-use Rattle.forest_model.specs.Ports.{PortRegisters, Read, Stored, console_read, plain_read, load_at, port_load}
-use Rattle.forest_model.specs.Ports.{console_stored, timer_stored, block_stored, fork_stored, talk_effect, sibling_stored, store_at, port_store}
+use Rattle.port_map.specs.declared.Place.{Place}
+use Rattle.port_map.specs.declared.Place.TheVariants.{Fork as at_fork, Sibling as at_sibling}
+use Rattle.port_map.specs.Bus.{PortRegisters, Read, Stored, fork_stored, place_of, port_load, port_store, sibling_stored, store_at, talk_effect}
+use Rattle.port_map.proofs.Quiet.{Leaves, StoresQuietly, load-leaves, no-call, no-talk, stores-quietly}
 use Rattle.forest_model.specs.State.{State, is_timer_due, at_next_instruction}
 use Rattle.forest_model.specs.Action.{Action, trap, interrupt, retire, exit, ask, speak, rs1, rs2}
 use Rattle.forest_model.specs.Compute.{load_upper, add_upper, compute_immediate, compute}
@@ -54,29 +49,9 @@ use Rattle.forest_model.specs.Forest.{port_of}
 abbrev pub sibling_of : State → SiblingRegisters
 sibling_of s = s.ports.sibling
 
--- no load changes them
-abbrev Leaves : PortRegisters → Read → Type 0
-Leaves ports read = (read.ports.fork ≡ ports.fork) × (read.ports.sibling ≡ ports.sibling)
-
-console_read-leaves : (loaded : Option ConsoleLoaded) (ports : PortRegisters) → IfSome (console_read loaded ports) (Leaves ports)
-console_read-leaves None ports = tt
-console_read-leaves (Some l) ports = (refl, refl)
-
-plain_read-leaves : (loaded : Option ℕ) (ports : PortRegisters) → IfSome (plain_read loaded ports) (Leaves ports)
-plain_read-leaves None ports = tt
-plain_read-leaves (Some value) ports = (refl, refl)
-
-load_at-leaves : (place : Place) (ports : PortRegisters) (width : ℕ) → IfSome (load_at place ports width) (Leaves ports)
-load_at-leaves (at_console offset) ports width = console_read-leaves (console_load ports.console offset width) ports
-load_at-leaves (at_timer offset) ports width = plain_read-leaves (timer_load ports.timer offset width) ports
-load_at-leaves (at_block offset) ports width = plain_read-leaves (block_load ports.block offset width) ports
-load_at-leaves (at_fork offset) ports width = plain_read-leaves (fork_load ports.fork offset width) ports
-load_at-leaves (at_sibling offset) ports width = plain_read-leaves (sibling_load ports.sibling offset width) ports
-load_at-leaves at_no_port ports width = tt
-
-port_load-leaves : (ports : PortRegisters) (address width : ℕ) → IfSome (port_load ports address width) (Leaves ports)
+port_load-leaves : (ports : PortRegisters) (address width : ℕ) → IfSome (port_load ports address width) (λ read. Leaves ports read.ports)
 unfolding port_load
-port_load-leaves ports address width = load_at-leaves (place_of address) ports width
+port_load-leaves ports address width = load-leaves (place_of address) ports width
 
 -- what is asked for waits at the next instruction, with all else as it is, and can be done
 pub record Waits (s new : State) (Possible : Type 0) : Type 0 where
@@ -94,10 +69,6 @@ module _ {s new : State} {Possible : Type 0} (w : Waits s new Possible) where
 -- a talk names a sibling
 abbrev pub IsSpoken : ForkRegisters → SiblingRegisters → Talk → Type 0
 IsSpoken f r t = HasSibling f.clone_id r × (named t ≡ r.peer)
-
-no-time : (b : Bool) (e : Effect) {R : Type 0} → (effect.TimeWritten ≡ e → R) → (effect.Done ≡ e → R) → cond b effect.TimeWritten effect.Done ≡ e → R
-no-time true e time done is = time is
-no-time false e time done is = done is
 
 -- a step that asks the pages for its code alone
 abbrev pub of_code : State → Footprint
@@ -151,25 +122,17 @@ module _ (P : ForkRegisters → SiblingRegisters → Type 0) where
     abbrev Stores : Type 0 → Option Stored → Type 0
     Stores Q stored = IfSome stored (IsStored Q ports)
 
-    Stores-console : (Q : Type 0) (stored : Option ConsoleRegisters) → P ports.fork ports.sibling → Stores Q (console_stored stored ports)
-    Stores-console Q None p = tt
-    Stores-console Q (Some console) p = record { holds = p; calls = λ c is. absurd (cc); talks = λ t is. absurd (cc) }
-
-    Stores-timer : (Q : Type 0) (stored : Option TimerRegisters) (offset : ℕ) → P ports.fork ports.sibling → Stores Q (timer_stored stored offset ports)
-    Stores-timer Q None offset p = tt
-    Stores-timer Q (Some timer) offset p = record {
-      holds = p;
-      calls = λ c. no-time (writes_mtime offset) (effect.Call c) (λ is. absurd (cc)) (λ is. absurd (cc));
-      talks = λ t. no-time (writes_mtime offset) (effect.Talk t) (λ is. absurd (cc)) (λ is. absurd (cc));
+    Stores-quiet : (Q : Type 0) (stored : Option Stored) → P ports.fork ports.sibling → IfSome stored (StoresQuietly ports) → Stores Q stored
+    Stores-quiet Q None p h = tt
+    Stores-quiet Q (Some s) p h = record {
+      holds = subst (λ (f : ForkRegisters). P f s.ports.sibling) (sym h.leaves.fork) (subst (P ports.fork) (sym h.leaves.sibling) p);
+      calls = λ c is. no-call s.effect c h.quiet is;
+      talks = λ t is. no-talk s.effect t h.quiet is;
     }
-
-    Stores-block : (Q : Type 0) (stored : Option BlockRegisters) → P ports.fork ports.sibling → Stores Q (block_stored stored ports)
-    Stores-block Q None p = tt
-    Stores-block Q (Some block) p = record { holds = p; calls = λ c is. absurd (cc); talks = λ t is. absurd (cc) }
 
     Stores-fork : (Q : Type 0) (stored : Option ForkStored) → IfSome stored (λ s. P s.fork ports.sibling)
         → ((c : Call) → IfSome stored (λ s. s.effect ≡ effect.Call c → (s.fork ≡ ports.fork) × IsMakeable ports.fork c))
-        → ((t : Talk) → IfSome stored (λ s. s.effect ≢ effect.Talk t)) → Stores Q (fork_stored stored ports)
+        → ((t : Talk) → IfSome stored (λ s. s.effect ≢ effect.Talk t)) → Stores Q (option_map (fork_stored ports) stored)
     Stores-fork Q None p asks quiet = tt
     Stores-fork Q (Some s) p asks quiet = record {
       holds = p;
@@ -187,7 +150,7 @@ module _ (P : ForkRegisters → SiblingRegisters → Type 0) where
 
     Stores-sibling : (Q : Type 0) → Q → (stored : Option SiblingStored) → IfSome stored (λ s. P ports.fork s.port)
         → ((t : Talk) → IfSome stored (λ s. s.talk ≡ Some t
-        → (s.port ≡ ports.sibling) × (HasSibling ports.fork.clone_id ports.sibling × (named t ≡ ports.sibling.peer)))) → Stores Q (sibling_stored stored ports)
+        → (s.port ≡ ports.sibling) × (HasSibling ports.fork.clone_id ports.sibling × (named t ≡ ports.sibling.peer)))) → Stores Q (option_map (sibling_stored ports) stored)
     Stores-sibling Q q None p names = tt
     Stores-sibling Q q (Some s) p names = record {
       holds = p;
@@ -201,19 +164,14 @@ module _ (P : ForkRegisters → SiblingRegisters → Type 0) where
     NeedsNone place width word = needs_at place width word s ≡ []
 
     Stores-at : (place : Place) (width word : ℕ) → Stores s.ports (NeedsNone place width word) (store_at place s.ports width word)
-    Stores-at (at_console offset) width word =
-        Stores-console s.ports (NeedsNone (at_console offset) width word) (console_store s.ports.console offset width word) kept.before
-    Stores-at (at_timer offset) width word =
-        Stores-timer s.ports (NeedsNone (at_timer offset) width word) (timer_store s.ports.timer offset width word) offset kept.before
-    Stores-at (at_block offset) width word =
-        Stores-block s.ports (NeedsNone (at_block offset) width word) (block_store s.ports.block offset width word) kept.before
     Stores-at (at_fork offset) width word =
         Stores-fork s.ports (NeedsNone (at_fork offset) width word) (fork_store s.ports.fork offset width word) (kept.after_store offset width word)
         (call_stored s.ports.fork offset width word) (talk_stored s.ports.fork offset width word)
     Stores-at (at_sibling offset) width word =
         Stores-sibling s.ports (NeedsNone (at_sibling offset) width word) refl (sibling_store s.ports.fork.clone_id s.ports.sibling offset width word)
         (kept.after_word offset width word) (waits s.ports.fork.clone_id s.ports.sibling offset width word)
-    Stores-at at_no_port width word = tt
+    Stores-at place width word =
+        Stores-quiet s.ports (NeedsNone place width word) (store_at place s.ports width word) kept.before (stores-quietly place tt s.ports width word)
 
     Follows-zeroed : (in_range : Bool) (first count : ℕ) (new : State) → Holds new → Holds (zeroed in_range first count new)
     Follows-zeroed false first count new p = kept.after_answer (fork_of new) (sibling_of new) BAD_ARGUMENT p
@@ -262,11 +220,11 @@ module _ (P : ForkRegisters → SiblingRegisters → Type 0) where
 
     -- no other instruction is a talk
     module _ (Q : Type 0) where
-      Follows-read_action : (answer : Option Read) (i : Instruction) (address : ℕ) → IfSome answer (Leaves s.ports)
+      Follows-read_action : (answer : Option Read) (i : Instruction) (address : ℕ) → IfSome answer (λ read. Leaves s.ports read.ports)
           → Follows Q s (read_action answer i address s)
       Follows-read_action None i address e = tt
       Follows-read_action (Some read) i address e =
-          subst (λ (f : ForkRegisters). P f read.ports.sibling) (sym e.0) (subst (P (fork_of s)) (sym e.1) kept.before)
+          subst (λ (f : ForkRegisters). P f read.ports.sibling) (sym e.fork) (subst (P (fork_of s)) (sym e.sibling) kept.before)
 
       Follows-load_by : (r : Reached) (i : Instruction) (address : ℕ) → Follows Q s (load_by r i address s)
       Follows-load_by (faulted cause) i address = tt

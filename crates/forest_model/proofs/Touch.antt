@@ -26,11 +26,11 @@ use Rattle.fork_port.specs.declared.commands.Effect.{Effect}
 use Rattle.fork_port.specs.declared.commands.Effect.TheVariants.{Done, TimeWritten, Exit, ExitWith, Call, Talk, Zero}
 use Rattle.cow_disk.specs.Disk.{sector_count}
 use Rattle.cow_disk.specs.Paged.{disk_pages, page_of_sector}
-use Rattle.block_port.specs.Block.{BlockRegisters, block_store, is_sector_command, touched_page}
-use Rattle.port_map.specs.declared.place.Place.{Place}
-use Rattle.port_map.specs.declared.place.Place.TheVariants.{Console as at_console, Timer as at_timer, Block as at_block, Fork as at_fork, Sibling as at_sibling, NoPort as at_no_port}
-use Rattle.port_map.specs.Ranges.{place_of}
-use Rattle.forest_model.specs.Ports.{Read, Stored, block_stored, port_load, port_store, store_at}
+use Rattle.block_port.specs.Block.{BlockRegisters, is_sector_command}
+use Rattle.port_map.specs.declared.Place.{Place}
+use Rattle.port_map.specs.declared.Place.TheVariants.{Block as at_block, Fork as at_fork, Sibling as at_sibling}
+use Rattle.port_map.specs.Bus.{Read, Stored, disk_page_at, place_of, port_load, port_store, store_at}
+use Rattle.port_map.proofs.Quiet.{IsQuiet, StoresQuietly, by-quiet, stores-quietly}
 use Rattle.forest_model.specs.declared.access.Access.{Access}
 use Rattle.forest_model.specs.declared.access.Direction.{Direction}
 use Rattle.forest_model.specs.declared.access.Direction.TheVariants as access
@@ -149,25 +149,31 @@ AreNeeded-page s (Some q) there = record {
   few = omega arith;
 }
 
-AreNeeded-block : (stored : Option BlockRegisters) (page : Option ℕ) (address : ℕ) (s : State) → IfSome page (λ q. q < disk_pages s.ports.block.disk)
-    → AreNeeded s (pages_on_disk s page ++ (stored_outcome (block_stored stored s.ports) address s).footprint.needs)
-AreNeeded-block None page address s there = AreNeeded-page s page there
-AreNeeded-block (Some b) page address s there = AreNeeded-page s page there
+-- so a port other than the fork port and the sibling port needs no other
+needs-quiet : (e : Effect) (s : State) → IsQuiet e → (outcome e s).footprint.needs ≡ []
+needs-quiet e s quiet = by-quiet (λ e. (outcome e s).footprint.needs ≡ []) refl refl e quiet
+
+AreNeeded-quiet : (stored : Option Stored) (page : Option ℕ) (address : ℕ) (s : State) → IfSome page (λ q. q < disk_pages s.ports.block.disk)
+    → IfSome stored (StoresQuietly s.ports) → AreNeeded s (pages_on_disk s page ++ (stored_outcome stored address s).footprint.needs)
+AreNeeded-quiet None page address s there quiet = AreNeeded-page s page there
+AreNeeded-quiet (Some stored) page address s there quiet =
+    subst (λ needs. AreNeeded s (pages_on_disk s page ++ needs))
+    (sym (needs-quiet stored.effect (at_next_instruction (record s { ports = stored.ports })) quiet.quiet)) (AreNeeded-page s page there)
+
+page-there : (place : Place) (width word : ℕ) (s : State) → IfSome (disk_page_at place s.ports width word) (λ q. q < disk_pages s.ports.block.disk)
+page-there (at_block offset) width word s =
+    sector-page s.ports.block offset width word (is_sector_command offset width word && ltb s.ports.block.sector (sector_count s.ports.block.disk)) refl
+page-there _ width word s = tt
 
 AreNeeded-place : (place : Place) (address width word : ℕ) (s : State)
     → AreNeeded s (needs_at place width word s ++ (stored_outcome (store_at place s.ports width word) address s).footprint.needs)
-AreNeeded-place (at_console offset) address width word s =
-    AreNeeded-data s (stored_outcome (store_at (at_console offset) s.ports width word) address s).footprint.needs (AreData-stored (store_at (at_console offset) s.ports width word) address s)
-AreNeeded-place (at_timer offset) address width word s =
-    AreNeeded-data s (stored_outcome (store_at (at_timer offset) s.ports width word) address s).footprint.needs (AreData-stored (store_at (at_timer offset) s.ports width word) address s)
-AreNeeded-place (at_block offset) address width word s =
-    AreNeeded-block (block_store s.ports.block offset width word) (touched_page s.ports.block offset width word) address s
-    (sector-page s.ports.block offset width word (is_sector_command offset width word && ltb s.ports.block.sector (sector_count s.ports.block.disk)) refl)
 AreNeeded-place (at_fork offset) address width word s =
     AreNeeded-data s (stored_outcome (store_at (at_fork offset) s.ports width word) address s).footprint.needs (AreData-stored (store_at (at_fork offset) s.ports width word) address s)
 AreNeeded-place (at_sibling offset) address width word s =
     AreNeeded-data s (stored_outcome (store_at (at_sibling offset) s.ports width word) address s).footprint.needs (AreData-stored (store_at (at_sibling offset) s.ports width word) address s)
-AreNeeded-place at_no_port address width word s = AreNeeded-none s
+AreNeeded-place place address width word s =
+    AreNeeded-quiet (store_at place s.ports width word) (disk_page_at place s.ports width word) address s (page-there place width word s)
+    (stores-quietly place tt s.ports width word)
 
 AreNeeded-port : (writes : Bool) (a : Access) (word : ℕ) (s : State) → AreNeeded s (footprint_at_port writes a word s).needs
 unfolding port_store

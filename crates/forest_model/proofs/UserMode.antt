@@ -18,7 +18,7 @@ use Rattle.fork_port.specs.declared.commands.Effect.TheVariants as effect
 use Rattle.fork_port.specs.declared.ending.Ending.{Ending}
 use Rattle.forest_model.specs.declared.CsrOperation.{CsrOperation}
 use Rattle.forest_model.specs.declared.CsrOperation.TheVariants.{Write, SetBits, ClearBits}
-use Rattle.forest_model.specs.Ports.{Read, Stored, port_load, port_store}
+use Rattle.port_map.specs.Bus.{Read, Stored, port_load, port_store}
 use Rattle.forest_model.specs.State.{State, is_timer_due, at_next_instruction}
 use Rattle.forest_model.specs.Action.{Action, trap, interrupt, retire, exit, ask, speak, immediate, rs1, rs2}
 use Rattle.forest_model.specs.Access.{Reached, faulted, of_ram, of_port, reached, fetch_access}

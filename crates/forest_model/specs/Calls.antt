@@ -5,7 +5,7 @@ use Rattle.fork_port.specs.declared.ending.Ending.{Ending}
 use Rattle.fork_port.specs.declared.tickets.Ticket.{Ticket}
 use Rattle.fork_port.specs.Registers.{ForkRegisters, ticket_found}
 use Rattle.fork_port.specs.Children as fork
-use Rattle.sibling_port.specs.Registers as sibling
+use Rattle.port_map.specs.Bus.{ports_of_child}
 use Rattle.forest_model.specs.declared.Written.TheVariants.{Nothing}
 use Rattle.forest_model.specs.State.{State}
 use Rattle.forest_model.specs.Action.{Action, ask}
@@ -28,16 +28,9 @@ forked_by _ m = m
 unfoldable pub forked : Machine → Machine
 forked m = forked_by (action m.state) m
 
--- a child has its parent's state, with a fork port and a sibling port of its own, and no output. It is child k of so
--- many, and has this share
+-- a child has its parent's state, but for what of its ports is its own. It is child k of so many, and has this share
 abbrev pub born : ℕ → ℕ → ℕ → State → State
-born k children share s = record s {
-  ports = record s.ports {
-    fork = fork.child_registers s.ports.fork k share;
-    sibling = sibling.at_start children;
-    console = record s.ports.console { output = [] };
-  };
-}
+born k children share s = record s { ports = ports_of_child k children share s.ports }
 
 abbrev pub share_of : Option Ticket → ℕ
 share_of None = 0

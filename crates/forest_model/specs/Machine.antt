@@ -16,7 +16,8 @@ use Rattle.forest_model.specs.declared.Written.TheVariants.{Nothing, Counter, Ti
 use Rattle.rv_traps.specs.Registers.{at_reset}
 use Rattle.rv_traps.specs.Counters.{counted}
 use Rattle.rv_traps.specs.Trap as csr
-use Rattle.forest_model.specs.Ports.{ports_at_start}
+use Rattle.block_port.specs.Block.{at_start as block_at_start}
+use Rattle.port_map.specs.Bus.{ports_at_start}
 use Rattle.forest_model.specs.State.{State}
 use Rattle.forest_model.specs.Action.{Action, trap, interrupt, retire, exit, ask, speak}
 use Rattle.forest_model.specs.Execute.{action}
@@ -116,7 +117,7 @@ boot image disk input options = record {
     csrs = at_reset;
     reservation = None;
     ram = image.ram;
-    ports = ports_at_start disk input options.allot;
+    ports = ports_at_start (block_at_start disk) input options.allot;
   };
   steps = 0;
   limit = options.limit;

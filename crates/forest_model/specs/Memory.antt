@@ -18,11 +18,8 @@ use Rattle.fork_port.specs.declared.refusals.TheConstants.{BAD_ARGUMENT}
 use Rattle.fork_port.specs.Registers.{ForkRegisters, refused}
 use Rattle.sibling_port.specs.Registers.{SiblingRegisters}
 use Rattle.forest_model.specs.Footprint.{Page, Footprint, no_footprint, no_change, zeroes}
-use Rattle.block_port.specs.Block.{touched_page}
-use Rattle.port_map.specs.declared.place.Place.{Place}
-use Rattle.port_map.specs.declared.place.Place.TheVariants as place
-use Rattle.port_map.specs.Ranges.{place_of}
-use Rattle.forest_model.specs.Ports.{Read, Stored, port_load, port_store}
+use Rattle.port_map.specs.declared.Place.{Place}
+use Rattle.port_map.specs.Bus.{Read, Stored, disk_page_at, place_of, port_load, port_store}
 use Rattle.forest_model.specs.State.{State, at_next_instruction}
 use Rattle.forest_model.specs.Action.{Action, trap, retire, exit, ask, speak, retire_next, with_rd, rs1, rs2, immediate}
 use Rattle.forest_model.specs.Access.{Reached, faulted, of_ram, of_port, reached, page_of}
@@ -95,15 +92,9 @@ abbrev pub pages_on_disk : State → Option ℕ → List Page
 pages_on_disk s None = []
 pages_on_disk s (Some page) = page_on_disk s page ∷ []
 
--- the page that a store to a port needs for what it does there: a command of the block port needs that of the sector which
--- it reads or writes
+-- the page that a store to a port needs for what it does there
 abbrev pub needs_at : Place → ℕ → ℕ → State → List Page
-needs_at (place.Console offset) width word s = []
-needs_at (place.Timer offset) width word s = []
-needs_at (place.Block offset) width word s = pages_on_disk s (touched_page s.ports.block offset width word)
-needs_at (place.Fork offset) width word s = []
-needs_at (place.Sibling offset) width word s = []
-needs_at place.NoPort width word s = []
+needs_at place width word s = pages_on_disk s (disk_page_at place s.ports width word)
 
 -- what an effect of a store to a port comes to: what it asks of the pages, and the action that it is
 pub record Outcome : Type 0 where

@@ -3,7 +3,7 @@ use Rattle.std.specs.Prelude.{ℕ, ◌+◌, ◌%◌, ◌^◌, ◌==◌, ◌&&◌
 use Rattle.elf_load.specs.declared.image.TheConstants.{RAM_BASE}
 use Rattle.rv_traps.specs.declared.registers.CsrRegisters.{CsrRegisters}
 use Rattle.timer_port.specs.Timer.{is_due}
-use Rattle.forest_model.specs.Ports.{PortRegisters}
+use Rattle.port_map.specs.Bus.{PortRegisters}
 
 pub record State : Type 0 where
   -- x0 to x31, of which x0 reads 0

@@ -1,1 +1,2 @@
-mod Places
+pub mod Ranges
+pub mod Quiet

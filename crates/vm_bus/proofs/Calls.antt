@@ -13,7 +13,8 @@ use Rattle.sibling_port.specs.Registers.{SiblingRegisters}
 use Rattle.sibling_port.specs.Commands.{HasSibling, SiblingStored, named}
 use Rattle.sibling_port.specs.Sibling.{sibling_store}
 use Rattle.sibling_port.proofs.Stores.{waits}
-use Rattle.vm_bus.specs.Bus.{BusParts, Waits, talk_effect}
+use Rattle.port_map.specs.Bus.{talk_effect}
+use Rattle.vm_bus.specs.Bus.{BusParts, Waits}
 
 pub fork-waits : (b : BusParts) (f : ForkRegisters) (offset width word : ℕ) (e : Effect)
     → fork_store b.fork offset width word ≡ Some (record { fork = f; effect = e }) → Waits b (record b { fork = f }) e

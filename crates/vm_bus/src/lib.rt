@@ -4,4 +4,5 @@
 mod ports;
 
 pub use fork_port::Effect;
-pub use ports::{PortFields, Ports};
+pub use port_map::PortFields;
+pub use ports::Ports;

@@ -9,31 +9,22 @@ ghost use Rattle.fork_port.specs.Registers.{HasTicket, refused, ticket_found, ti
 ghost use Rattle.fork_port.specs.Children.{after_clone, after_join, after_kill, child_registers};
 ghost use Rattle.sibling_port.specs.Commands.{sibling_command};
 ghost use Rattle.sibling_port.specs.Registers.{talked};
-ghost use Rattle.vm_bus.specs.Bus.{at_start, bus_load, bus_over, bus_store, disk_page_touched, fields_of, fork_stored, load_at, parts_of_fields, sibling_stored, store_at, talk_effect, timer_stored, IsDiskPageHere, IsDiskPageHereAt, Waits, WantsMemory, WantsMemoryAt};
+ghost use Rattle.port_map.specs.Bus.{disk_page_at, fields_of, load_at, place_of, port_load, port_store, store_at, talk_effect, WantsMemory, WantsMemoryAt};
+ghost use Rattle.vm_bus.specs.Bus.{bus_over, parts_at_boot, parts_of_fields, IsDiskPageHere, IsDiskPageHereAt, Waits};
 
-use block_port::{BlockFields, BlockPort};
-use console_port::{ConsoleFields, ConsolePort, Input};
+use block_port::BlockPort;
+use console_port::{ConsolePort, Input};
 use cow_disk::{Arrived, Disk, SECTOR_SIZE};
 use fork_port::refusals::TICKETS_END;
 use fork_port::registers::{FORK_COMMAND, TICKET_COMMAND};
-use fork_port::{Asked, Effect, Ending, ForkFields, ForkPort};
+use fork_port::{Asked, Effect, Ending, ForkPort};
 use page_frames::PAGE_SIZE;
 use port_error::{Fault, PortError};
-use port_map::{FORK_BASE, Place, place_of};
+use port_map::{FORK_BASE, Place, PortFields, place_of};
 use sibling_port::{SiblingPort, Talk};
 use std::alloc::{AllocError, Global};
 use std::marker::Model;
 use timer_port::{TimerPort, TimerRegisters};
-
-/// The registers of the ports, but for the disk, the input and the output, the tickets and what was
-/// joined, and those of the sibling port, which is new in each machine.
-#[derive(Clone, Copy)]
-pub struct PortFields {
-    pub timer: TimerRegisters,
-    pub console: ConsoleFields,
-    pub block: BlockFields,
-    pub fork: ForkFields,
-}
 
 /// The ports of a machine. Contracts see the pages of its disk, and say of the registers what they are over
 /// each disk below, which has the absent pages.
@@ -51,14 +42,14 @@ impl Model for Ports {
 
     ghost Value = { BusParts };
 
-    ghost view = { λ p. record { timer = p.timer; console = p.console; block = p.block; fork = p.fork; sibling = p.sibling } };
+    ghost view = { λ p. record { console = p.console; timer = p.timer; block = p.block; fork = p.fork; sibling = p.sibling } };
 }
 
 impl Ports {
     /// The ports of a machine that starts with this disk and this input, and may have `allot` clones.
     pub fn new(alloc: Global, disk: Disk, input: &[u8], allot: u32) -> Result<Ports, AllocError>
         requires { length input.now ≤ MAX_INPUT }
-        ensures { IfOk result (λ ports. ports ≡ at_start disk input.now allot) }
+        ensures { IfOk result (λ ports. ports ≡ parts_at_boot disk input.now allot) }
     {
         let console = ConsolePort::new(alloc, input)?;
         let buffer = Box::new(alloc, [0; SECTOR_SIZE])?;
@@ -136,7 +127,7 @@ impl Ports {
 
     /// The page of the disk that a store touches: that of the sector which it has read or written.
     pub fn touched(&self, address: u32, width: u32, word: u32) -> Option<u32>
-        ensures value { (below : List ℕ) → result ≡ disk_page_touched (bus_over self.now below) address width word }
+        ensures value { (below : List ℕ) → result ≡ disk_page_at (place_of address) (bus_over self.now below) width word }
         ensures there { IfSome result (λ page. PAGE_SECTORS * page < self.now.block.disk.sectors) }
         // So a store can be made where no page is touched, or that page is here.
         ensures none { IsNone result → IsDiskPageHere self.now address width word }
@@ -186,8 +177,8 @@ impl Ports {
 
     /// Loads `width` bytes from the port that `address` is of.
     pub fn load(&mut self, address: u32, width: u32) -> Result<u32, Fault>
-        ensures ok { IfOk result (λ value. (below : List ℕ) → bus_load (bus_over self.old below) address width ≡ Some (record { bus = bus_over self.new below; value = value })) }
-        ensures fault { (below : List ℕ) → (IsErr result ↔ (bus_load (bus_over self.old below) address width ≡ None)) }
+        ensures ok { IfOk result (λ value. (below : List ℕ) → port_load (bus_over self.old below) address width ≡ Some (record { ports = bus_over self.new below; value = value })) }
+        ensures fault { (below : List ℕ) → (IsErr result ↔ (port_load (bus_over self.old below) address width ≡ None)) }
         ensures disk { self.new.block.disk ≡ self.old.block.disk }
         ensures err { OnErr result (self.new ≡ self.old) }
     {
@@ -199,9 +190,9 @@ impl Ports {
     pub fn store(&mut self, address: u32, width: u32, word: u32) -> Result<Effect, PortError>
         requires ticket { address ≡ FORK_BASE + FORK_COMMAND → word ≡ TICKET_COMMAND → self.old.fork.next_ticket < TICKETS_END }
         requires here { IsDiskPageHere self.old address width word }
-        ensures ok { IfOk result (λ effect. (below : List ℕ) → bus_store (bus_over self.old below) address width word ≡ Some (record { bus = bus_over self.new below; effect = effect })) }
+        ensures ok { IfOk result (λ effect. (below : List ℕ) → port_store (bus_over self.old below) address width word ≡ Some (record { ports = bus_over self.new below; effect = effect })) }
         ensures waits { IfOk result (Waits self.old self.new) }
-        ensures fault { (below : List ℕ) → (IsErrOf result PortError.Fault ↔ (bus_store (bus_over self.old below) address width word ≡ None)) }
+        ensures fault { (below : List ℕ) → (IsErrOf result PortError.Fault ↔ (port_store (bus_over self.old below) address width word ≡ None)) }
         ensures pages { here_pages self.new.block.disk ≡ here_pages self.old.block.disk }
         ensures sectors { self.new.block.disk.sectors ≡ self.old.block.disk.sectors }
         ensures err { OnErr result (self.new ≡ self.old) }
@@ -325,7 +316,7 @@ impl Ports {
     }
 
     fn load_at(&mut self, place: Place, width: u32) -> Result<u32, Fault>
-        ensures ok { IfOk result (λ value. (below : List ℕ) → load_at place (bus_over self.old below) width ≡ Some (record { bus = bus_over self.new below; value = value })) }
+        ensures ok { IfOk result (λ value. (below : List ℕ) → load_at place (bus_over self.old below) width ≡ Some (record { ports = bus_over self.new below; value = value })) }
         ensures fault { (below : List ℕ) → (IsErr result ↔ (load_at place (bus_over self.old below) width ≡ None)) }
         ensures disk { self.new.block.disk ≡ self.old.block.disk }
         ensures err { OnErr result (self.new ≡ self.old) }
@@ -343,7 +334,7 @@ impl Ports {
     fn store_at(&mut self, place: Place, width: u32, word: u32) -> Result<Effect, PortError>
         requires ticket { place ≡ Place.Fork FORK_COMMAND → word ≡ TICKET_COMMAND → self.old.fork.next_ticket < TICKETS_END }
         requires here { IsDiskPageHereAt place self.old width word }
-        ensures ok { IfOk result (λ effect. (below : List ℕ) → store_at place (bus_over self.old below) width word ≡ Some (record { bus = bus_over self.new below; effect = effect })) }
+        ensures ok { IfOk result (λ effect. (below : List ℕ) → store_at place (bus_over self.old below) width word ≡ Some (record { ports = bus_over self.new below; effect = effect })) }
         ensures waits { IfOk result (Waits self.old self.new) }
         ensures fault { (below : List ℕ) → (IsErrOf result PortError.Fault ↔ (store_at place (bus_over self.old below) width word ≡ None)) }
         ensures pages { here_pages self.new.block.disk ≡ here_pages self.old.block.disk }
@@ -368,9 +359,9 @@ impl Ports {
     }
 
     fn store_sibling(&mut self, offset: u32, width: u32, word: u32) -> Result<Effect, PortError>
-        ensures ok { IfOk result (λ effect. (below : List ℕ) → sibling_stored (bus_over self.old below) offset width word ≡ Some (record { bus = bus_over self.new below; effect = effect })) }
+        ensures ok { IfOk result (λ effect. (below : List ℕ) → store_at (Place.Sibling offset) (bus_over self.old below) width word ≡ Some (record { ports = bus_over self.new below; effect = effect })) }
         ensures waits { IfOk result (Waits self.old self.new) }
-        ensures fault { OnErr result ((below : List ℕ) → sibling_stored (bus_over self.old below) offset width word ≡ None) }
+        ensures fault { OnErr result ((below : List ℕ) → store_at (Place.Sibling offset) (bus_over self.old below) width word ≡ None) }
         ensures disk { self.new.block ≡ self.old.block }
         ensures only { OnErr result (result ≡ Err PortError.Fault) }
         ensures err { OnErr result (self.new ≡ self.old) }
@@ -382,9 +373,9 @@ impl Ports {
 
     fn store_fork(&mut self, offset: u32, width: u32, word: u32) -> Result<Effect, PortError>
         requires { offset ≡ FORK_COMMAND → word ≡ TICKET_COMMAND → self.old.fork.next_ticket < TICKETS_END }
-        ensures ok { IfOk result (λ effect. (below : List ℕ) → fork_stored (bus_over self.old below) offset width word ≡ Some (record { bus = bus_over self.new below; effect = effect })) }
+        ensures ok { IfOk result (λ effect. (below : List ℕ) → store_at (Place.Fork offset) (bus_over self.old below) width word ≡ Some (record { ports = bus_over self.new below; effect = effect })) }
         ensures waits { IfOk result (Waits self.old self.new) }
-        ensures fault { (below : List ℕ) → (IsErrOf result PortError.Fault ↔ (fork_stored (bus_over self.old below) offset width word ≡ None)) }
+        ensures fault { (below : List ℕ) → (IsErrOf result PortError.Fault ↔ (store_at (Place.Fork offset) (bus_over self.old below) width word ≡ None)) }
         ensures disk { self.new.block ≡ self.old.block }
         ensures err { OnErr result (self.new ≡ self.old) }
         ensures memory { IsErrOf result PortError.Memory → GrantsTicket self.old.fork offset width word }
@@ -393,9 +384,9 @@ impl Ports {
     }
 
     fn store_timer(&mut self, offset: u32, width: u32, word: u32) -> Result<Effect, PortError>
-        ensures ok { IfOk result (λ effect. (below : List ℕ) → timer_stored (bus_over self.old below) offset width word ≡ Some (record { bus = bus_over self.new below; effect = effect })) }
+        ensures ok { IfOk result (λ effect. (below : List ℕ) → store_at (Place.Timer offset) (bus_over self.old below) width word ≡ Some (record { ports = bus_over self.new below; effect = effect })) }
         ensures waits { IfOk result (Waits self.old self.new) }
-        ensures fault { OnErr result ((below : List ℕ) → timer_stored (bus_over self.old below) offset width word ≡ None) }
+        ensures fault { OnErr result ((below : List ℕ) → store_at (Place.Timer offset) (bus_over self.old below) width word ≡ None) }
         ensures disk { self.new.block ≡ self.old.block }
         ensures only { OnErr result (result ≡ Err PortError.Fault) }
         ensures err { OnErr result (self.new ≡ self.old) }

@@ -8,7 +8,8 @@ use Rattle.cow_disk.specs.declared.arrived.Arrived.{Arrived}
 use Rattle.cow_disk.specs.declared.arrived.Arrived.TheVariants.{Got, Had}
 use Rattle.cow_disk.specs.Paged as cow
 use Rattle.cow_disk.specs.Paged.{PagedDisk, disk_page, here_pages, is_page_here, with_page, IsPageBelow}
-use Rattle.vm_bus.specs.Bus.{BusParts, BusRegisters, bus_over}
+use Rattle.port_map.specs.Bus.{PortRegisters}
+use Rattle.vm_bus.specs.Bus.{BusParts, bus_over}
 use Rattle.image_depot.specs.Key.{Key}
 use Rattle.image_depot.specs.Receiver.{IsOfImage}
 use Rattle.image_depot.specs.Reply.{Reply}
@@ -16,7 +17,6 @@ use Rattle.guest_mem.specs.Answers as memory
 use Rattle.guest_mem.specs.Ram.{Ram, disk_below}
 use Rattle.forest_model.specs.Paged.{Pages}
 use Rattle.forest_model.specs.State.{State}
-use Rattle.vm_hart.specs.Hart.{ports_of}
 use Rattle.vm_hart.specs.AtPlace.{at_place}
 use Rattle.vm_hart.specs.Keyed.{Arrives, pages_of}
 use Rattle.vm_hart.proofs.Disks.{disk-absent, disk-arrived, disk-here, flag-ram, page-below, ram-arrived}
@@ -67,8 +67,8 @@ module _ (ram blank : List Bool) (disk : PagedDisk) (place q : ℕ) (is_place : 
 -- ---- the state stays
 
 module _ (registers : List ℕ) (pc : ℕ) (csrs : CsrRegisters) (reservation : Option ℕ) where
-  abbrev state_of : List ℕ → BusRegisters → State
-  state_of reads bus = record { registers = registers; pc = pc; csrs = csrs; reservation = reservation; ram = reads; ports = ports_of bus }
+  abbrev state_of : List ℕ → PortRegisters → State
+  state_of reads bus = record { registers = registers; pc = pc; csrs = csrs; reservation = reservation; ram = reads; ports = bus }
 
   -- since RAM reads as it did
   pub same-by_ram : (old new : Ram) (ports : BusParts) → (new.reads ≡ old.reads) × (new.key ≡ old.key)
@@ -78,7 +78,7 @@ module _ (registers : List ℕ) (pc : ℕ) (csrs : CsrRegisters) (reservation : 
   -- since the disk reads as it did
   pub same-by_disk : (ram : Ram) (old new : BusParts) → bus_over new (disk_below ram.key) ≡ bus_over old (disk_below ram.key)
       → state_of ram.reads (bus_over new (disk_below ram.key)) ≡ state_of ram.reads (bus_over old (disk_below ram.key))
-  same-by_disk ram old new same = ap (λ (bus : BusRegisters). state_of ram.reads bus) same
+  same-by_disk ram old new same = ap (λ (bus : PortRegisters). state_of ram.reads bus) same
 
 -- ---- what holds of the disk
 

@@ -1,7 +1,6 @@
 -- Steps that leave RAM, the pages that are here, and the entries of memory protection.
-use Rattle.std.proofs.Common.{◌≡◌, ℕ, ◌-◌, Bool, true, false, cond, List, Option, Some, None, refl, sym, ap, ◌∙◌, subst, arith}
+use Rattle.std.proofs.Common.{◌≡◌, ℕ, ◌-◌, Bool, true, false, cond, List, Option, Some, None, IfSome, refl, sym, ap, ◌∙◌, subst, arith}
 use Rattle.std.proofs.lemmas.Bool.Decides.{nat_tests}
-use Rattle.console_port.specs.Console.{ConsoleRegisters}
 use Rattle.rv_decode.specs.Instruction.{Instruction}
 use Rattle.rv_decode.specs.Table.{decoded}
 use Rattle.rv_decode.specs.Kinds.{group_of}
@@ -19,15 +18,16 @@ use Rattle.guest_pmp.specs.Allowed.{is_machine}
 use Rattle.guest_pmp.specs.Registers.{IsNumber}
 use Rattle.fork_port.specs.declared.ending.Ending.{Ending}
 use Rattle.console_port.specs.declared.registers.TheConstants.{CONSOLE_SIZE}
-use Rattle.port_map.specs.declared.place.TheConstants.{CONSOLE_BASE}
-use Rattle.forest_model.specs.State.{State, is_in_ram, is_timer_due}
+use Rattle.port_map.specs.declared.TheConstants.{CONSOLE_BASE}
+use Rattle.forest_model.specs.State.{State, at_next_instruction, is_in_ram, is_timer_due}
 use Rattle.forest_model.specs.Action.{Action, trap, interrupt, retire, exit, ask, speak, immediate, rs2}
 use Rattle.forest_model.specs.Access.{Reached, faulted, of_ram, of_port, page_of, reached, fetch_access}
-use Rattle.forest_model.specs.Memory.{data_address, stored_outcome, store, store_access, store_action, store_by, stored_bytes}
-use Rattle.forest_model.specs.Ports.{PortRegisters, console_stored, port_store, store_at}
-use Rattle.port_map.specs.declared.place.Place.{Place}
-use Rattle.port_map.specs.declared.place.Place.TheVariants.{Console as at_console}
-use Rattle.port_map.specs.Ranges.{is_within, place_in, place_of}
+use Rattle.forest_model.specs.Memory.{data_address, outcome, stored_outcome, store, store_access, store_action, store_by, stored_bytes}
+use Rattle.port_map.specs.Bus.{PortRegisters, Stored, place_of, port_store, store_at}
+use Rattle.port_map.proofs.Quiet.{StoresQuietly, by-quiet, stores-quietly}
+use Rattle.port_map.specs.declared.Place.{Place}
+use Rattle.port_map.specs.declared.Place.TheVariants.{Console as at_console}
+use Rattle.port_map.specs.Ranges.{is_within, place_in}
 use Rattle.forest_model.specs.System.{csr_access, csr_value, old_action, old_value, operand, operation_of, reads, returned_action, trap_return, write_action, writes, written_action}
 use Rattle.forest_model.specs.Execute.{action, action_by, decoded_action, execute, execute_group, fetch_action, fetched}
 use Rattle.forest_model.specs.Machine.{Machine, advance, advance_from, applied}
@@ -110,14 +110,17 @@ console-store : (ports : PortRegisters) (address width word : ℕ) → is_within
 unfolding port_store
 console-store ports address width word inside = ap (λ place. store_at place ports width word) (console-place address inside)
 
-module _ (s : State) (address width word : ℕ) where
-  console-leaves : (c : Option ConsoleRegisters) → Leaves s (stored_outcome (console_stored c s.ports) address s).action
-  console-leaves None = tt
-  console-leaves (Some c) = record { ram = refl; entries = refl }
+module _ (s : State) (address : ℕ) where
+  console-leaves : (o : Option Stored) → IfSome o (StoresQuietly s.ports) → Leaves s (stored_outcome o address s).action
+  console-leaves None quiet = tt
+  console-leaves (Some stored) quiet =
+      by-quiet (λ e. Leaves s (outcome e (at_next_instruction (record s { ports = stored.ports }))).action)
+      (record { ram = refl; entries = refl }) (record { ram = refl; entries = refl }) stored.effect quiet.quiet
 
-  console-stays : (c : Option ConsoleRegisters) → LeavesPages (stored_outcome (console_stored c s.ports) address s).footprint.changes
-  console-stays None p = refl
-  console-stays (Some c) p = refl
+  console-stays : (o : Option Stored) → IfSome o (StoresQuietly s.ports) → LeavesPages (stored_outcome o address s).footprint.changes
+  console-stays None quiet p = refl
+  console-stays (Some stored) quiet p =
+      by-quiet (λ e. (pages_after (outcome e (at_next_instruction (record s { ports = stored.ports }))).footprint.changes p).here ≡ p.here) refl refl stored.effect quiet.quiet
 
 module _ (i : Instruction) (s : State) (console : is_within CONSOLE_BASE CONSOLE_SIZE (data_address i s) ≡ true) where
   store-leaves : (r : Reached) → reached (store_access i s) s ≡ r → Leaves s (store_by r (data_address i s) (store_width i.kind) (stored_bytes i s) (rs2 i s) s)
@@ -125,7 +128,7 @@ module _ (i : Instruction) (s : State) (console : is_within CONSOLE_BASE CONSOLE
   store-leaves (of_ram page) is = absurd (not-of-ram s.ram (data_address i s) console (of_ram-is (store_access i s) s page is).in_ram)
   store-leaves of_port is =
       subst (λ o. Leaves s (stored_outcome o (data_address i s) s).action) (sym (console-store s.ports (data_address i s) (store_width i.kind) (rs2 i s) console))
-      (console-leaves s (data_address i s) (store_width i.kind) (rs2 i s) _)
+      (console-leaves s (data_address i s) _ (stores-quietly (at_console (data_address i s - CONSOLE_BASE)) tt s.ports (store_width i.kind) (rs2 i s)))
 
   store-stays : (r : Reached) → LeavesPages (footprint_reached r (store_access i s) (rs2 i s) s).changes
   store-stays (faulted cause) p = refl
@@ -133,7 +136,7 @@ module _ (i : Instruction) (s : State) (console : is_within CONSOLE_BASE CONSOLE
   store-stays (of_ram (Some page)) p = refl
   store-stays of_port p =
       subst (λ o. (pages_after (stored_outcome o (data_address i s) s).footprint.changes p).here ≡ p.here) (sym (console-store s.ports (data_address i s) (store_width i.kind) (rs2 i s) console))
-      (console-stays s (data_address i s) (store_width i.kind) (rs2 i s) _ p)
+      (console-stays s (data_address i s) _ (stores-quietly (at_console (data_address i s - CONSOLE_BASE)) tt s.ports (store_width i.kind) (rs2 i s)) p)
 
 -- ---- by its group
 

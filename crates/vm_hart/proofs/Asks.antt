@@ -13,17 +13,11 @@ use Rattle.rv_exec.specs.Memory.{load_width, store_width}
 use Rattle.rv_decode.specs.Table.{decoded}
 use Rattle.rv_traps.specs.Trap.{mret, takes_interrupt}
 use Rattle.rv_traps.specs.declared.registers.CsrRegisters.{CsrRegisters}
-use Rattle.console_port.specs.declared.registers.TheConstants.{CONSOLE_SIZE}
-use Rattle.console_port.specs.Console.{ConsoleRegisters, console_store}
-use Rattle.timer_port.specs.declared.registers.TimerRegisters.{TimerRegisters}
-use Rattle.timer_port.specs.Timer.{timer_store, writes_mtime}
-use Rattle.block_port.specs.declared.registers.TheConstants.{BLOCK_SIZE}
-use Rattle.block_port.specs.Block.{BlockRegisters, block_store}
 use Rattle.fork_port.specs.declared.commands.Asked.{Asked}
 use Rattle.fork_port.specs.declared.commands.Asked.TheVariants as asked
 use Rattle.fork_port.specs.declared.commands.Effect.{Effect}
 use Rattle.fork_port.specs.declared.commands.Effect.TheVariants as effect
-use Rattle.fork_port.specs.declared.registers.TheConstants.{FORK_SIZE, FORK_FIRST_ARGUMENT, FORK_SECOND_ARGUMENT, FORK_COMMAND, FORK_JOIN_SELECT}
+use Rattle.fork_port.specs.declared.registers.TheConstants.{FORK_FIRST_ARGUMENT, FORK_SECOND_ARGUMENT, FORK_COMMAND, FORK_JOIN_SELECT}
 use Rattle.fork_port.specs.Registers.{ForkRegisters, RegisterStored, register_store}
 use Rattle.fork_port.specs.Commands.{answered, effect_of, fork_command}
 use Rattle.fork_port.specs.Fork.{ForkStored, carried_out, fork_store}
@@ -31,17 +25,18 @@ use Rattle.fork_port.proofs.TicketLemmas.{either}
 use Rattle.sibling_port.specs.declared.talk.Asked as sibling
 use Rattle.sibling_port.specs.declared.talk.Asked.TheVariants as talk_asked
 use Rattle.sibling_port.specs.declared.talk.Talk.{Talk}
-use Rattle.sibling_port.specs.declared.registers.TheConstants.{SIBLING_SIZE, SIBLING_PEER, SIBLING_DATA, SIBLING_COMMAND}
+use Rattle.sibling_port.specs.declared.registers.TheConstants.{SIBLING_PEER, SIBLING_DATA, SIBLING_COMMAND}
 use Rattle.sibling_port.specs.Registers.{SiblingRegisters}
 use Rattle.sibling_port.specs.Commands.{SiblingStored, sibling_command}
 use Rattle.sibling_port.specs.Commands as sibling_port
 use Rattle.sibling_port.specs.Sibling.{sibling_store}
-use Rattle.port_map.specs.declared.place.TheConstants.{CONSOLE_BASE, TIMER_BASE, TIMER_SIZE, BLOCK_BASE, FORK_BASE, SIBLING_BASE}
-use Rattle.port_map.specs.declared.place.Place.{Place}
-use Rattle.port_map.specs.declared.place.Place.TheVariants.{Console as at_console, Timer as at_timer, Block as at_block, Fork as at_fork, Sibling as at_sibling, NoPort as at_no_port}
-use Rattle.port_map.specs.Ranges.{is_within, place_in, place_of}
-use Rattle.forest_model.specs.Ports.{PortRegisters, Read, Stored}
-use Rattle.forest_model.specs.Ports.{port_load, console_stored, timer_stored, block_stored, fork_stored, sibling_stored, talk_effect, store_at, port_store}
+use Rattle.port_map.specs.declared.TheConstants.{FORK_BASE, SIBLING_BASE}
+use Rattle.port_map.specs.declared.Place.{Place}
+use Rattle.port_map.specs.declared.Place.TheVariants.{Fork as at_fork, Sibling as at_sibling}
+use Rattle.port_map.specs.Ranges.{place_in}
+use Rattle.port_map.specs.Bus.{IsAt, PortRegisters, Read, Stored, fork_stored, place_of, port_load, port_store, sibling_stored, store_at, talk_effect}
+use Rattle.port_map.proofs.Ranges.{at-place}
+use Rattle.port_map.proofs.Quiet.{StoresQuietly, by-quiet, stores-quietly}
 use Rattle.forest_model.specs.State.{State, is_timer_due, at_next_instruction}
 use Rattle.forest_model.specs.Action.{Action, rs1, rs2}
 use Rattle.forest_model.specs.Compute.{load_upper, add_upper, compute_immediate, compute}
@@ -120,47 +115,27 @@ own-stored (Some stored) address s h = own-outcome stored.effect (at_next_instru
 -- the store is no word for the command of the fork port
 abbrev IsElsewhere : ℕ → Place → Type 0
 IsElsewhere width (at_fork offset) = (eqb width 4 ≡ false) ⊎ (eqb offset FORK_COMMAND ≡ false)
-IsElsewhere width (at_console offset) = Unit {0}
-IsElsewhere width (at_timer offset) = Unit {0}
-IsElsewhere width (at_block offset) = Unit {0}
-IsElsewhere width (at_sibling offset) = Unit {0}
-IsElsewhere width at_no_port = Unit {0}
+IsElsewhere width _ = Unit {0}
 
 -- nor is it one for that of the sibling port
 abbrev IsSilent : ℕ → Place → Type 0
 IsSilent width (at_sibling offset) = (eqb width 4 ≡ false) ⊎ (eqb offset SIBLING_COMMAND ≡ false)
-IsSilent width (at_console offset) = Unit {0}
-IsSilent width (at_timer offset) = Unit {0}
-IsSilent width (at_block offset) = Unit {0}
-IsSilent width (at_fork offset) = Unit {0}
-IsSilent width at_no_port = Unit {0}
+IsSilent width _ = Unit {0}
 
 -- what holds of the effects of all stores but commands
 module _ (P : Effect → Type 0) (done : P effect.Done) (timed : P effect.TimeWritten) where
   abbrev Stores : Option Stored → Type 0
   Stores o = IfSome o (λ stored. P stored.effect)
 
-  stores-console : (o : Option ConsoleRegisters) (ports : PortRegisters) → Stores (console_stored o ports)
-  stores-console None ports = tt
-  stores-console (Some console) ports = done
+  stores-quiet : (o : Option Stored) (ports : PortRegisters) → IfSome o (StoresQuietly ports) → Stores o
+  stores-quiet None ports h = tt
+  stores-quiet (Some stored) ports h = by-quiet P done timed stored.effect h.quiet
 
-  time-effect : (b : Bool) → P (cond b effect.TimeWritten effect.Done)
-  time-effect true = timed
-  time-effect false = done
-
-  stores-timer : (o : Option TimerRegisters) (offset : ℕ) (ports : PortRegisters) → Stores (timer_stored o offset ports)
-  stores-timer None offset ports = tt
-  stores-timer (Some timer) offset ports = time-effect (writes_mtime offset)
-
-  stores-block : (o : Option BlockRegisters) (ports : PortRegisters) → Stores (block_stored o ports)
-  stores-block None ports = tt
-  stores-block (Some block) ports = done
-
-  stores-fork : (o : Option ForkStored) (ports : PortRegisters) → IfSome o (λ s. P s.effect) → Stores (fork_stored o ports)
+  stores-fork : (o : Option ForkStored) (ports : PortRegisters) → IfSome o (λ s. P s.effect) → Stores (option_map (fork_stored ports) o)
   stores-fork None ports h = tt
   stores-fork (Some s) ports h = h
 
-  stores-sibling : (o : Option SiblingStored) (ports : PortRegisters) → IfSome o (λ s. P (talk_effect s.talk)) → Stores (sibling_stored o ports)
+  stores-sibling : (o : Option SiblingStored) (ports : PortRegisters) → IfSome o (λ s. P (talk_effect s.talk)) → Stores (option_map (sibling_stored ports) o)
   stores-sibling None ports h = tt
   stores-sibling (Some s) ports h = h
 
@@ -191,13 +166,10 @@ module _ (P : Effect → Type 0) (done : P effect.Done) (timed : P effect.TimeWr
   stores-at : (place : Place) (ports : PortRegisters) (width word : ℕ) → IsElsewhere width place
       → ((offset : ℕ) → place ≡ at_sibling offset → IfSome (sibling_store ports.fork.clone_id ports.sibling offset width word) (λ s. P (talk_effect s.talk)))
       → Stores (store_at place ports width word)
-  stores-at (at_console offset) ports width word h talks = stores-console (console_store ports.console offset width word) ports
-  stores-at (at_timer offset) ports width word h talks = stores-timer (timer_store ports.timer offset width word) offset ports
-  stores-at (at_block offset) ports width word h talks = stores-block (block_store ports.block offset width word) ports
   stores-at (at_fork offset) ports width word h talks = stores-fork (fork_store ports.fork offset width word) ports (fork-elsewhere ports.fork offset width word h)
   stores-at (at_sibling offset) ports width word h talks =
       stores-sibling (sibling_store ports.fork.clone_id ports.sibling offset width word) ports (talks offset refl)
-  stores-at at_no_port ports width word h talks = tt
+  stores-at place ports width word h talks = stores-quiet (store_at place ports width word) ports (stores-quietly place tt ports width word)
 
 -- a talk needs no page, so no store elsewhere does
 needless-talk : (said : Option Talk) → IsNeedless (talk_effect said)
@@ -219,48 +191,28 @@ own-at place ports width word h silent =
 
 elsewhere-narrow : (width : ℕ) (place : Place) → eqb width 4 ≡ false → IsElsewhere width place
 elsewhere-narrow width (at_fork offset) e = inl e
-elsewhere-narrow width (at_console offset) e = tt
-elsewhere-narrow width (at_timer offset) e = tt
-elsewhere-narrow width (at_block offset) e = tt
-elsewhere-narrow width (at_sibling offset) e = tt
-elsewhere-narrow width at_no_port e = tt
+elsewhere-narrow width _ e = tt
 
 silent-narrow : (width : ℕ) (place : Place) → eqb width 4 ≡ false → IsSilent width place
 silent-narrow width (at_sibling offset) e = inl e
-silent-narrow width (at_console offset) e = tt
-silent-narrow width (at_timer offset) e = tt
-silent-narrow width (at_block offset) e = tt
-silent-narrow width (at_fork offset) e = tt
-silent-narrow width at_no_port e = tt
+silent-narrow width _ e = tt
 
--- what holds of both choices, each where it is taken, holds of the choice
-by_test : {A : Type 0} (P : A → Type 0) (b : Bool) (x y : A) → (b ≡ true → P x) → P y → P (cond b x y)
-by_test P true x y p q = p refl
-by_test P false x y p q = q
+offset-other : (base command address offset : ℕ) → eqb address (base + command) ≡ false → address ≡ base + offset → eqb offset command ≡ false
+offset-other base command address offset e at = grind (arith, nat_tests)
 
-offset-other : (base size command address : ℕ) → eqb address (base + command) ≡ false → is_within base size address ≡ true → eqb (address - base) command ≡ false
-offset-other base size command address e inside = grind (arith, nat_tests)
+elsewhere-place : (width address : ℕ) (place : Place) → IsAt address place → eqb address (FORK_BASE + FORK_COMMAND) ≡ false → IsElsewhere width place
+elsewhere-place width address (at_fork offset) at e = inr (offset-other FORK_BASE FORK_COMMAND address offset e at)
+elsewhere-place width address _ at e = tt
+
+silent-place : (width address : ℕ) (place : Place) → IsAt address place → eqb address (SIBLING_BASE + SIBLING_COMMAND) ≡ false → IsSilent width place
+silent-place width address (at_sibling offset) at e = inr (offset-other SIBLING_BASE SIBLING_COMMAND address offset e at)
+silent-place width address _ at e = tt
 
 elsewhere-address : (width address : ℕ) → eqb address (FORK_BASE + FORK_COMMAND) ≡ false → IsElsewhere width (place_of address)
-unfolding place_in
-elsewhere-address width address e =
-    let P : Place → Type 0 = IsElsewhere width in
-    either P (is_within CONSOLE_BASE CONSOLE_SIZE address) _ _ tt
-    (either P (is_within TIMER_BASE TIMER_SIZE address) _ _ tt
-    (either P (is_within BLOCK_BASE BLOCK_SIZE address) _ _ tt
-    (by_test P (is_within FORK_BASE FORK_SIZE address) (at_fork (address - FORK_BASE)) _ (λ inside. inr (offset-other FORK_BASE FORK_SIZE FORK_COMMAND address e inside))
-    (either P (is_within SIBLING_BASE SIBLING_SIZE address) _ _ tt tt))))
+elsewhere-address width address e = elsewhere-place width address (place_of address) (at-place address) e
 
 silent-address : (width address : ℕ) → eqb address (SIBLING_BASE + SIBLING_COMMAND) ≡ false → IsSilent width (place_of address)
-unfolding place_in
-silent-address width address e =
-    let P : Place → Type 0 = IsSilent width in
-    either P (is_within CONSOLE_BASE CONSOLE_SIZE address) _ _ tt
-    (either P (is_within TIMER_BASE TIMER_SIZE address) _ _ tt
-    (either P (is_within BLOCK_BASE BLOCK_SIZE address) _ _ tt
-    (either P (is_within FORK_BASE FORK_SIZE address) _ _ tt
-    (by_test P (is_within SIBLING_BASE SIBLING_SIZE address) (at_sibling (address - SIBLING_BASE)) at_no_port
-    (λ inside. inr (offset-other SIBLING_BASE SIBLING_SIZE SIBLING_COMMAND address e inside)) tt))))
+silent-address width address e = silent-place width address (place_of address) (at-place address) e
 
 own-store_by : (r : Reached) (address width : ℕ) (bytes : List ℕ) (word : ℕ) (s : State) → IsElsewhere width (place_of address) → IsSilent width (place_of address)
     → AsksNothing (store_by r address width bytes word s)
@@ -517,19 +469,20 @@ request-port : (o : Option Stored) (address : ℕ) (s : State) (q : Request) →
 request-port None address s q is = refl
 request-port (Some stored) address s q is = request-outcome stored.effect (at_next_instruction (record s { ports = stored.ports })) q is
 
--- no command of the block port is one
-request-block : (b : Option BlockRegisters) (address : ℕ) (s : State) (q : Request) → requested (next_of (stored_outcome (block_stored b s.ports) address s).action) ≡ Some q → ⊥
-request-block None address s q is = cc
-request-block (Some b) address s q is = cc
+-- no store that asks for nothing is one
+request-quiet : (o : Option Stored) (ports : PortRegisters) (address : ℕ) (s : State) (q : Request) → IfSome o (StoresQuietly ports)
+    → requested (next_of (stored_outcome o address s).action) ≡ Some q → ⊥
+request-quiet None ports address s q h is = cc
+request-quiet (Some stored) ports address s q h is =
+    let new : State = at_next_instruction (record s { ports = stored.ports }) in
+    by-quiet (λ e. requested (next_of (outcome e new).action) ≡ Some q → ⊥) (λ done. cc) (λ timed. cc) stored.effect h.quiet is
 
 request-place : (place : Place) (address width word : ℕ) (s : State) (q : Request) → requested (next_of (stored_outcome (store_at place s.ports width word) address s).action) ≡ Some q
     → (needing (needs_at place width word s) (stored_outcome (store_at place s.ports width word) address s)).footprint ≡ no_footprint
-request-place (at_console offset) address width word s q is = request-port (store_at (at_console offset) s.ports width word) address s q is
-request-place (at_timer offset) address width word s q is = request-port (store_at (at_timer offset) s.ports width word) address s q is
-request-place (at_block offset) address width word s q is = absurd (request-block (block_store s.ports.block offset width word) address s q is)
 request-place (at_fork offset) address width word s q is = request-port (store_at (at_fork offset) s.ports width word) address s q is
 request-place (at_sibling offset) address width word s q is = request-port (store_at (at_sibling offset) s.ports width word) address s q is
-request-place at_no_port address width word s q is = refl
+request-place place address width word s q is =
+    absurd (request-quiet (store_at place s.ports width word) s.ports address s q (stores-quietly place tt s.ports width word) is)
 
 request-at-port : (address width word : ℕ) (s : State) (q : Request) → requested (next_of (effect_outcome address width word s).action) ≡ Some q
     → (port_outcome address width word s).footprint ≡ no_footprint

@@ -1,5 +1,4 @@
--- The flags of a machine's pages, those of RAM first and then those of the disk, and the pages of the disk that stores to
--- ports need.
+-- The flags of a machine's pages, those of RAM first and then those of the disk.
 use Rattle.std.proofs.Common.{◌≡◌, ℕ, zero, suc, ◌+◌, ◌-◌, ◌*◌, ◌/◌, ◌<◌, ◌≤◌, not, inl, inr, Bool, true, false}
 use Rattle.std.proofs.Common.{List, [], ◌∷◌, ◌++◌, length, map, take, drop, replicate, get_or, set, slice_get}
 use Rattle.std.proofs.Common.{Option, Some, None, Result, Ok, Err, refl, sym, ap, ◌∙◌, subst, append_assoc, arith}
@@ -17,7 +16,6 @@ use Rattle.page_frames.specs.Tables.{is_own}
 use Rattle.cow_disk.specs.Disk.{sector_count}
 use Rattle.cow_disk.specs.Paged.{PagedDisk, absent_disk, disk_over, disk_page, disk_pages, here_pages, is_page_here, page_total, with_page, IsPageBelow, IsWholeDisk}
 use Rattle.cow_disk.proofs.Pages.{get_or-padded, length-over}
-use Rattle.block_port.specs.Block.{BlockRegisters, touched_page}
 use Rattle.image_depot.specs.Key.{Key}
 use Rattle.image_depot.specs.Receiver.{HasAbsent}
 use Rattle.guest_mem.specs.declared.answers.StoreError.{StoreError}
@@ -25,13 +23,8 @@ use Rattle.guest_mem.specs.declared.answers.StoreError.TheVariants as store
 use Rattle.guest_mem.specs.Answers.{IsRefused}
 use Rattle.guest_mem.specs.Ram.{HasAbsentPages, IsDiskBased, Ram, at_boot, with_set}
 use Rattle.vm_hart.specs.Acts.{IsUnput}
-use Rattle.port_map.specs.declared.place.Place.{Place}
-use Rattle.port_map.specs.declared.place.Place.TheVariants.{Console as at_console, Timer as at_timer, Block as at_block, Fork as at_fork, Sibling as at_sibling, NoPort as at_no_port}
-use Rattle.vm_bus.specs.Bus.{BusRegisters, disk_page_at}
-use Rattle.forest_model.specs.Memory.{needs_at, pages_on_disk}
 use Rattle.forest_model.specs.Footprint.{zeroes}
 use Rattle.forest_model.specs.Paged.{Pages, flags_of_disk, pages_after, pages_arrived, pages_at_boot}
-use Rattle.forest_model.specs.State.{State}
 use Rattle.vm_hart.specs.Keyed.{IsAbsent, IsHere, pages_of}
 
 -- ---- flags of RAM, with those of the disk behind them
@@ -202,14 +195,3 @@ module _ (ram : List Bool) (disk : PagedDisk) (count : length disk.pages ≡ pag
   has_absent (Some key) has based =
       omega (arith, has, ap page_total based, count, length-here disk, length-append ram (here_pages disk))
   has_absent None has based = none-absent has based
-
--- ---- the page that a store to a port needs for what it does there
-
-pub needs-is : (place : Place) (b : BusRegisters) (width word : ℕ) (s : State) → s.ports.block ≡ b.block
-    → needs_at place width word s ≡ pages_on_disk s (disk_page_at place b width word)
-needs-is (at_console offset) b width word s same = refl
-needs-is (at_timer offset) b width word s same = refl
-needs-is (at_block offset) b width word s same = ap (λ (k : BlockRegisters). pages_on_disk s (touched_page k offset width word)) same
-needs-is (at_fork offset) b width word s same = refl
-needs-is (at_sibling offset) b width word s same = refl
-needs-is at_no_port b width word s same = refl

@@ -22,7 +22,7 @@ use Rattle.timer_port.specs.Timer.{is_due, timer_counted}
 use Rattle.forest_model.specs.declared.Written.{Written}
 use Rattle.forest_model.specs.declared.Written.TheVariants.{Nothing, Counter, Time}
 use Rattle.forest_model.specs.declared.access.Access.{Access}
-use Rattle.forest_model.specs.Ports.{PortRegisters}
+use Rattle.port_map.specs.Bus.{PortRegisters}
 use Rattle.forest_model.specs.State.{State, at_next_instruction, is_in_ram}
 use Rattle.forest_model.proofs.Accesses.{reached-ram}
 use Rattle.forest_model.specs.Action.{Action, trap, interrupt, retire, exit, ask, speak, retire_next, rs1, rs2, immediate, with_rd}

@@ -3,7 +3,6 @@ pub mod Reaching
 pub mod Asks
 pub mod HandingOver
 pub mod Runs
-pub mod PortChoice
 pub mod Disks
 pub mod Arriving
 pub mod Seeds

@@ -1,6 +1,6 @@
--- Loads and stores of the bus, over the disk of the image of the key, as those of the hart.
-use Rattle.std.proofs.Common.{◌≡◌, inl, inr, refl, ℕ, ◌+◌, ◌*◌, ◌<◌, true, false, Bool, List, [], ◌∷◌, ◌++◌, length, slice_get}
-use Rattle.std.proofs.Common.{Option, Some, None, Result, Ok, Err, IfOk, IsSomeAnd, option_map, sym, ap, ◌∙◌, subst, arith}
+-- Stores of the bus, over the disk of the image of the key, as those of the hart.
+use Rattle.std.proofs.Common.{◌≡◌, inl, refl, ℕ, ◌+◌, ◌*◌, ◌<◌, true, false, Bool, List, [], ◌∷◌, ◌++◌, length, slice_get}
+use Rattle.std.proofs.Common.{Option, Some, None, Result, Ok, Err, IfOk, sym, ap, ◌∙◌, subst, arith}
 use Rattle.std.proofs.lemmas.Bool.Decides.{nat_tests}
 use Rattle.std.proofs.lemmas.Option.{get_or_from_slice_get}
 use Rattle.page_frames.specs.declared.page.TheConstants.{PAGE_SIZE}
@@ -14,53 +14,23 @@ use Rattle.fork_port.specs.declared.commands.Effect.TheVariants as effect
 use Rattle.image_depot.specs.Key.{Key}
 use Rattle.rv_traps.specs.declared.registers.CsrRegisters.{CsrRegisters}
 use Rattle.guest_mem.specs.Ram.{IsDiskBased, Ram, disk_below}
-use Rattle.port_map.specs.declared.place.Place.{Place}
-use Rattle.port_map.specs.declared.place.Place.TheVariants.{Console as at_console, Timer as at_timer, Block as at_block, Fork as at_fork, Sibling as at_sibling, NoPort as at_no_port}
+use Rattle.port_map.specs.declared.Place.{Place}
+use Rattle.port_map.specs.declared.Place.TheVariants.{Block as at_block}
 use Rattle.forest_model.specs.Memory.{needs_at, page_on_disk, pages_on_disk}
 use Rattle.forest_model.specs.Paged.{Pages}
-use Rattle.forest_model.specs.Ports.{PortRegisters, Stored, port_load, port_store}
+use Rattle.port_map.specs.Bus.{PortRegisters, disk_page_at}
 use Rattle.forest_model.specs.State.{State}
-use Rattle.vm_bus.specs.Bus.{BusParts, BusRegisters, BusStored, IsDiskPageHereAt, Waits, WantsMemory, bus_load, bus_over, bus_store, disk_page_at}
-use Rattle.vm_hart.specs.Acts.{IsMet, LeavesTo, PortGrows, WaitsAt}
-use Rattle.vm_hart.specs.Hart.{hart_of, ports_of}
+use Rattle.vm_bus.specs.Bus.{BusParts, IsDiskPageHereAt, Waits, bus_over}
+use Rattle.vm_hart.specs.Acts.{IsMet, LeavesTo, WaitsAt}
+use Rattle.vm_hart.specs.Hart.{hart_of}
 use Rattle.vm_hart.specs.Keyed.{KeyedState}
 use Rattle.vm_hart.specs.Requests.{IsPossible}
 use Rattle.vm_hart.specs.declared.hart.Request.TheVariants as request
-use Rattle.vm_hart.proofs.Disks.{flag-disk, get-disk, length-here, needs-is}
-use Rattle.vm_hart.proofs.PortChoice.{as_read, as_stored, same_load, same_store}
-
--- ---- their answers
-
-module _ (old : BusParts) (below : List ℕ) (address width : ℕ) where
-  pub port-loaded : (new : BusParts) (value : ℕ) → bus_load (bus_over old below) address width ≡ Some (record { bus = bus_over new below; value = value })
-      → port_load (ports_of (bus_over old below)) address width ≡ Some (record { ports = ports_of (bus_over new below); value = value })
-  port-loaded new value is = same_load (bus_over old below) address width ∙ ap (option_map as_read) is
-
-  pub port-unloaded : bus_load (bus_over old below) address width ≡ None → port_load (ports_of (bus_over old below)) address width ≡ None
-  port-unloaded is = same_load (bus_over old below) address width ∙ ap (option_map as_read) is
-
-  pub port-stored : (word : ℕ) (new : BusParts) (e : Effect) → bus_store (bus_over old below) address width word ≡ Some (record { bus = bus_over new below; effect = e })
-      → port_store (ports_of (bus_over old below)) address width word ≡ Some (record { ports = ports_of (bus_over new below); effect = e })
-  port-stored word new e is = same_store (bus_over old below) address width word ∙ ap (option_map as_stored) is
-
-  pub port-unstored : (word : ℕ) → bus_store (bus_over old below) address width word ≡ None → port_store (ports_of (bus_over old below)) address width word ≡ None
-  port-unstored word is = same_store (bus_over old below) address width word ∙ ap (option_map as_stored) is
-
--- a store that wants memory
-mapped : (written : List ℕ) (o : Option BusStored) → IsSomeAnd o (λ (s : BusStored). length written < length s.bus.console.output)
-    → IsSomeAnd (option_map as_stored o) (λ (s : Stored). length written < length s.ports.console.output)
-mapped written None h = h
-mapped written (Some s) h = h
-
-pub port-grows : (b : BusRegisters) (address width word : ℕ) → WantsMemory b address width word → PortGrows (ports_of b) address width word
-port-grows b address width word (inl puts) =
-    inl (subst (λ o. IsSomeAnd o (λ (s : Stored). length b.console.output < length s.ports.console.output)) (sym (same_store b address width word))
-    (mapped b.console.output (bus_store b address width word) puts))
-port-grows b address width word (inr other) = inr other
+use Rattle.vm_hart.proofs.Disks.{flag-disk, get-disk, length-here}
 
 -- what waits on the bus is left to the machine
 pub leaves-to : (make : BusParts → KeyedState) (old new : BusParts) (e : Effect)
-    → ((b : BusParts) → (make b).state.ports ≡ ports_of (bus_over b (disk_below (make b).key))) → Waits old new e → LeavesTo (make old) (make new) e
+    → ((b : BusParts) → (make b).state.ports ≡ bus_over b (disk_below (make b).key)) → Waits old new e → LeavesTo (make old) (make new) e
 leaves-to make old new effect.Done is h = tt
 leaves-to make old new effect.TimeWritten is h = tt
 leaves-to make old new (effect.Call c) is h = (ap make h.0, subst (λ p. IsPossible p (request.Call c)) (sym (is old)) h.1)
@@ -72,7 +42,7 @@ leaves-to make old new (effect.Zero first count) is h = ap make h
 -- ---- the page that a store needs
 
 module _ (ram : List Bool) (parts : BusParts) (below : List ℕ) (count : length parts.block.disk.pages ≡ page_total parts.block.disk.sectors)
-    (s : State) (ports : s.ports ≡ ports_of (bus_over parts below)) (pages : length s.ram ≡ PAGE_SIZE * length ram) where
+    (s : State) (ports : s.ports ≡ bus_over parts below) (pages : length s.ram ≡ PAGE_SIZE * length ram) where
   -- its place
   pub place-is : (q : ℕ) → page_on_disk s q ≡ length ram + q
   place-is q = omega (arith, pages)
@@ -80,8 +50,6 @@ module _ (ram : List Bool) (parts : BusParts) (below : List ℕ) (count : length
   -- where the pages that it needs are here, the bus can make it
   pub bus-here : (place : Place) (width word : ℕ) (flags : Pages) → flags.here ≡ ram ++ here_pages parts.block.disk
       → IsMet (needs_at place width word s) flags → IsDiskPageHereAt place parts width word
-  bus-here (at_console offset) width word flags is_here met = tt
-  bus-here (at_timer offset) width word flags is_here met = tt
   bus-here (at_block offset) width word flags is_here met = λ command there.
       let inside : parts.block.sector < sector_count (disk_over parts.block.disk below) = omega (arith, there, length-over parts.block.disk count below) in
       let asked : touched_page (block_over parts.block below) offset width word ≡ Some (page_of_sector parts.block.sector) = grind (arith, nat_tests, command, inside) in
@@ -92,16 +60,14 @@ module _ (ram : List Bool) (parts : BusParts) (below : List ℕ) (count : length
       (sym (get-disk ram (here_pages parts.block.disk) (page_of_sector parts.block.sector))
       ∙ ap (λ here. slice_get here (length ram + page_of_sector parts.block.sector)) (sym is_here)
       ∙ ap (slice_get flags.here) (sym (place-is (page_of_sector parts.block.sector))) ∙ one.0)
-  bus-here (at_fork offset) width word flags is_here met = tt
-  bus-here (at_sibling offset) width word flags is_here met = tt
-  bus-here at_no_port width word flags is_here met = tt
+  bus-here _ width word flags is_here met = tt
 
   -- the page of the disk that is needed, if one is
   module _ (flags : Pages) (is_here : flags.here ≡ ram ++ here_pages parts.block.disk) (place : Place) (width word q : ℕ)
       (touched : disk_page_at place (bus_over parts below) width word ≡ Some q) (there : q < length parts.block.disk.pages) where
     one-needed : needs_at place width word s ≡ (length ram + q) ∷ []
     one-needed =
-        needs-is place (bus_over parts below) width word s (ap (λ (p : PortRegisters). p.block) ports) ∙ ap (pages_on_disk s) touched ∙ ap (λ page. page ∷ []) (place-is q)
+        ap (λ (p : PortRegisters). pages_on_disk s (disk_page_at place p width word)) ports ∙ ap (pages_on_disk s) touched ∙ ap (λ page. page ∷ []) (place-is q)
 
     its-flag : (flag : Bool) → is_page_here parts.block.disk q ≡ flag → slice_get flags.here (length ram + q) ≡ Some flag
     its-flag flag is =
@@ -124,7 +90,7 @@ if_ok-both (Err e) P Q R both p q = tt
 pub ports-alone : (registers : List ℕ) (pc : ℕ) (csrs : CsrRegisters) (reservation : Option ℕ) (memory : Ram) (old new : BusParts)
     → here_pages new.block.disk ≡ here_pages old.block.disk → (now : KeyedState) → hart_of registers pc csrs reservation memory old ≡ now
     → hart_of registers pc csrs reservation memory new
-    ≡ record now { state = record now.state { ports = ports_of (bus_over new (disk_below memory.key)) } }
+    ≡ record now { state = record now.state { ports = bus_over new (disk_below memory.key) } }
 ports-alone registers pc csrs reservation memory old new same now is =
     let state : State = (hart_of registers pc csrs reservation memory new).state in
     ap (λ (flags : List Bool). let k : KeyedState = record { state = state; pages = record { here = memory.here ++ flags; blank = memory.blank }; key = memory.key } in k) same

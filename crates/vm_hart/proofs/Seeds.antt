@@ -13,12 +13,13 @@ use Rattle.image_depot.specs.Key.{Key, image_of}
 use Rattle.elf_load.specs.Image.{Image}
 use Rattle.rv_traps.specs.Registers.{at_reset}
 use Rattle.rv_traps.specs.declared.registers.CsrRegisters.{CsrRegisters}
-use Rattle.vm_bus.specs.Bus.{BusParts, at_start, parts_of_fields, ports_of_fields}
+use Rattle.vm_bus.specs.Bus.{BusParts, parts_at_boot, parts_of_fields}
 use Rattle.guest_mem.specs.Ram.{Ram, IsRam, at_boot, cleared, cloned}
 use Rattle.guest_mem.proofs.Making.{cleared_frozen}
 use Rattle.forest_model.specs.Paged.{Pages, pages_at_boot}
-use Rattle.forest_model.specs.Ports.{ports_at_start}
-use Rattle.vm_hart.specs.Hart.{IsWordOf, hart_of, ports_of}
+use Rattle.block_port.specs.Block.{at_start}
+use Rattle.port_map.specs.Bus.{ports_at_start, ports_of_fields}
+use Rattle.vm_hart.specs.Hart.{IsWordOf, hart_of}
 use Rattle.vm_hart.specs.Keyed.{KeyedState}
 use Rattle.vm_hart.specs.Seeds.{IsBlankMap, port_fields, woken_hart}
 use Rattle.vm_hart.proofs.Disks.{absent-flags, booted-pages}
@@ -44,7 +45,7 @@ blank_map ram is_ram = record {
 
 -- the hart at the start, which has every page
 pub booted-is : (registers : List ℕ) (image : Image) (disk : PagedDisk) (input : List ℕ) (allot : ℕ) → length disk.pages ≡ page_total disk.sectors → IsWholeDisk disk
-    → hart_of registers image.entry at_reset None (at_boot image) (at_start disk input allot)
+    → hart_of registers image.entry at_reset None (at_boot image) (parts_at_boot disk input allot)
     ≡ record {
       state = record {
         registers = registers;
@@ -52,7 +53,7 @@ pub booted-is : (registers : List ℕ) (image : Image) (disk : PagedDisk) (input
         csrs = at_reset;
         reservation = None;
         ram = image.ram;
-        ports = ports_at_start (disk_over disk []) input allot;
+        ports = ports_at_start (at_start (disk_over disk [])) input allot;
       };
       pages = pages_at_boot image (disk_over disk []);
       key = None;
@@ -65,7 +66,7 @@ booted-is registers image disk input allot count whole =
         csrs = at_reset;
         reservation = None;
         ram = image.ram;
-        ports = ports_at_start (disk_over disk []) input allot;
+        ports = ports_at_start (at_start (disk_over disk [])) input allot;
       };
       pages = pages;
       key = None;
@@ -86,7 +87,7 @@ woken-is d siblings key disk is whole =
         csrs = d.csrs;
         reservation = d.reservation;
         ram = cleared d.blank image.contents;
-        ports = ports_of (ports_of_fields (port_fields d) reads image.input siblings);
+        ports = ports_of_fields (port_fields d) (block_on d reads) image.input siblings;
       };
       pages = record { here = d.blank ++ flags; blank = d.blank };
       key = Some key;

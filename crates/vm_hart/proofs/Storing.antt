@@ -7,14 +7,13 @@ use Rattle.fork_port.specs.declared.commands.Call.{Call}
 use Rattle.sibling_port.specs.declared.talk.Talk.{Talk}
 use Rattle.fork_port.specs.declared.commands.Effect.{Effect}
 use Rattle.fork_port.specs.declared.commands.Effect.TheVariants as effect
-use Rattle.port_map.specs.Ranges.{place_of}
+use Rattle.port_map.specs.Bus.{place_of, port_load, port_store}
 use Rattle.forest_model.specs.declared.Written.TheVariants.{Nothing, Time}
 use Rattle.forest_model.specs.declared.cause.TheConstants.{LOAD_ACCESS_FAULT, STORE_ACCESS_FAULT}
 use Rattle.forest_model.specs.Action.{ask, speak, exit, retire, retire_next, with_rd}
 use Rattle.forest_model.specs.Footprint.{no_change, no_footprint, zeroes}
 use Rattle.forest_model.specs.Memory.{Outcome, bytes_at, effect_outcome, is_byte_range, is_page_range, needs_at, outcome, port_outcome, read_action, stored_outcome, zeroed}
 use Rattle.forest_model.specs.Paged.{Pages, pages_after}
-use Rattle.forest_model.specs.Ports.{port_load, port_store}
 use Rattle.forest_model.specs.State.{State, at_next_instruction}
 use Rattle.vm_hart.specs.Acts.{Acts, HandsOver, HasActed, HasChanged, HasRead, HasStored, IsMet, StoreGrows, TakesMemory, Tells, WaitsAt, bytes_needs}
 use Rattle.vm_hart.specs.Keyed.{KeyedState}

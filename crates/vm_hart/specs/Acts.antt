@@ -4,16 +4,13 @@ use Rattle.std.specs.Prelude.{◌∷◌, length, Option, Some, None, Result, Ok,
 use Rattle.std.specs.declared.alloc.AllocError.{AllocError}
 use Rattle.elf_load.specs.declared.image.TheConstants.{RAM_BASE}
 use Rattle.page_frames.specs.declared.page.TheConstants.{PAGE_SIZE}
-use Rattle.block_port.specs.Block.{WritesSector}
 use Rattle.fork_port.specs.declared.commands.Effect.{Effect}
 use Rattle.fork_port.specs.declared.commands.Effect.TheVariants.{Done, TimeWritten, Call, Talk, Exit, ExitWith, Zero}
 use Rattle.fork_port.specs.declared.handed.TheConstants.{MAX_HANDED}
-use Rattle.fork_port.specs.Fork.{GrantsTicket}
 use Rattle.rv_decode.specs.Instruction.{Instruction}
 use Rattle.forest_model.specs.declared.access.Access.{Access}
 use Rattle.forest_model.specs.declared.access.Direction.{Direction}
-use Rattle.port_map.specs.declared.place.TheConstants.{BLOCK_BASE, FORK_BASE}
-use Rattle.forest_model.specs.Ports.{PortRegisters, port_load, port_store}
+use Rattle.port_map.specs.Bus.{WantsMemory, port_load, port_store}
 use Rattle.forest_model.specs.State.{State, at_next_instruction}
 use Rattle.forest_model.specs.Action.{Action, trap, interrupt, retire, exit, rs2}
 use Rattle.forest_model.specs.Access.{Reached, faulted, of_ram, of_port, outside_ram, page_for, reached, uses}
@@ -178,16 +175,10 @@ TakesMemory no_change = ⊥
 TakesMemory (puts page) = Unit {0}
 TakesMemory (zeroes first count) = Unit {0}
 
--- a store to a port puts out a byte, writes a sector of the disk, or grants a ticket
-abbrev pub PortGrows : PortRegisters → ℕ → ℕ → ℕ → Type 0
-PortGrows ports address width word =
-    IsSomeAnd (port_store ports address width word) (λ stored. length ports.console.output < length stored.ports.console.output)
-    ⊎ (WritesSector ports.block (address - BLOCK_BASE) width word ⊎ GrantsTicket ports.fork (address - FORK_BASE) width word)
-
--- it does so, or changes pages
+-- a store to a port may want it by itself, or for the pages that it changes
 abbrev pub StoreGrows : ℕ → ℕ → ℕ → State → Type 0
 StoreGrows address width word s =
-    PortGrows s.ports address width word ⊎ TakesMemory (port_outcome address width word s).footprint.changes
+    WantsMemory s.ports address width word ⊎ TakesMemory (port_outcome address width word s).footprint.changes
 
 abbrev pub PortAccessGrows : Bool → Access → ℕ → State → Type 0
 PortAccessGrows false a word s = ⊥

@@ -5,14 +5,9 @@ use Rattle.rv_traps.specs.declared.registers.CsrRegisters.{CsrRegisters}
 use Rattle.image_depot.specs.Key.{Key}
 use Rattle.guest_mem.specs.Ram.{Ram, IsDiskBased, disk_below}
 use Rattle.forest_model.specs.State.{State}
-use Rattle.forest_model.specs.Ports.{PortRegisters}
 use Rattle.cow_disk.specs.Paged.{PagedDisk, page_total}
-use Rattle.vm_bus.specs.Bus.{BusParts, BusRegisters, bus_over}
+use Rattle.vm_bus.specs.Bus.{BusParts, bus_over}
 use Rattle.vm_hart.specs.Keyed.{KeyedState, pages_of}
-
--- what the bus holds
-abbrev pub ports_of : BusRegisters → PortRegisters
-ports_of b = record { console = b.console; timer = b.timer; block = b.block; fork = b.fork; sibling = b.sibling }
 
 -- what a hart of these parts is. Its disk lies over that of the image of its key
 abbrev pub hart_of : List ℕ → ℕ → CsrRegisters → Option ℕ → Ram → BusParts → KeyedState
@@ -23,7 +18,7 @@ hart_of registers pc csrs reservation ram ports = record {
     csrs = csrs;
     reservation = reservation;
     ram = ram.reads;
-    ports = ports_of (bus_over ports (disk_below ram.key));
+    ports = bus_over ports (disk_below ram.key);
   };
   pages = pages_of ram ports.block.disk;
   key = ram.key;

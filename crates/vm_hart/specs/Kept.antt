@@ -16,7 +16,7 @@ use Rattle.rv_decode.specs.Instruction.{Instruction}
 use Rattle.rv_decode.specs.Table.{decoded}
 use Rattle.rv_decode.specs.Kinds.{group_of}
 use Rattle.console_port.specs.declared.registers.TheConstants.{CONSOLE_SIZE}
-use Rattle.port_map.specs.declared.place.TheConstants.{CONSOLE_BASE}
+use Rattle.port_map.specs.declared.TheConstants.{CONSOLE_BASE}
 use Rattle.forest_model.specs.Action.{immediate}
 use Rattle.forest_model.specs.Memory.{data_address}
 use Rattle.port_map.specs.Ranges.{is_within}

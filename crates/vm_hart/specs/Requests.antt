@@ -2,7 +2,7 @@
 use Rattle.std.specs.Prelude.{◌≡◌, Option, Some, None}
 use Rattle.fork_port.specs.Commands.{IsMakeable}
 use Rattle.sibling_port.specs.Commands.{HasSibling, named}
-use Rattle.forest_model.specs.Ports.{PortRegisters}
+use Rattle.port_map.specs.Bus.{PortRegisters}
 use Rattle.forest_model.specs.State.{State}
 use Rattle.forest_model.specs.Action.{Action, ask, speak}
 use Rattle.forest_model.specs.Machine.{Next, exception, timer_interrupt, plain, call, talk}

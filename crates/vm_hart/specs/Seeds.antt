@@ -1,8 +1,9 @@
 -- What a hart leaves for its clones, and the hart that a clone starts with.
 use Rattle.std.specs.Prelude.{◌≡◌, ℕ, ◌*◌, ◌/◌, Bool, false, List, ◌∷◌, ◌++◌, length, drop, Some}
 use Rattle.page_frames.specs.declared.page.TheConstants.{PAGE_SIZE}
-use Rattle.vm_bus.specs.declared.ports.PortFields.{PortFields}
-use Rattle.vm_bus.specs.Bus.{ports_of_fields}
+use Rattle.block_port.specs.Block.{BlockRegisters}
+use Rattle.port_map.specs.declared.PortFields.{PortFields}
+use Rattle.port_map.specs.Bus.{ports_of_fields}
 use Rattle.vm_descriptor.specs.declared.descriptor.Descriptor.{Descriptor}
 use Rattle.vm_descriptor.specs.Descriptor.{IsInRange}
 use Rattle.image_depot.specs.Image.{FrozenImage, page_count}
@@ -10,7 +11,6 @@ use Rattle.image_depot.specs.Key.{Key, number_of, image_of}
 use Rattle.guest_mem.specs.Ram.{cleared}
 use Rattle.forest_model.specs.State.{State}
 use Rattle.forest_model.specs.Paged.{Pages, flags_of_disk}
-use Rattle.vm_hart.specs.Hart.{ports_of}
 use Rattle.vm_hart.specs.Keyed.{KeyedState}
 
 -- the registers of the ports that a descriptor tells: a clone has no ticket yet, and the first of its own
@@ -32,6 +32,10 @@ port_fields d = record {
   };
 }
 
+-- its block port, with this disk
+abbrev pub block_on : Descriptor → List ℕ → BlockRegisters
+block_on d disk = record { sector = d.block.sector; status = d.block.status; buffer = d.block.buffer; disk = disk }
+
 abbrev pub woken_state : Descriptor → ℕ → FrozenImage → State
 woken_state d siblings image = record {
   registers = 0 ∷ d.registers;
@@ -39,7 +43,7 @@ woken_state d siblings image = record {
   csrs = d.csrs;
   reservation = d.reservation;
   ram = cleared d.blank image.contents;
-  ports = ports_of (ports_of_fields (port_fields d) image.disk image.input siblings);
+  ports = ports_of_fields (port_fields d) (block_on d image.disk) image.input siblings;
 }
 
 -- a clone starts with its blank pages alone, and with no page of the disk

@@ -9,7 +9,8 @@ ghost use Rattle.console_port.specs.declared.port.TheConstants.{MAX_INPUT};
 ghost use Rattle.rv_decode.specs.Table.{decoded};
 ghost use Rattle.rv_exec.specs.Memory.{IsWidth};
 ghost use Rattle.rv_traps.specs.Registers.{at_reset};
-ghost use Rattle.forest_model.specs.Ports.{ports_at_start};
+ghost use Rattle.block_port.specs.Block.{at_start as block_at_start};
+ghost use Rattle.port_map.specs.Bus.{ports_at_start};
 ghost use Rattle.forest_model.specs.State.{at_next_instruction, register, with_register};
 ghost use Rattle.forest_model.specs.Action.{with_rd};
 ghost use Rattle.forest_model.specs.Machine.{registers_at_start, trapped, count};
@@ -129,7 +130,7 @@ impl Hart {
             csrs = at_reset;
             reservation = None;
             ram = image.now.ram;
-            ports = ports_at_start (disk_over disk []) input.now allot;
+            ports = ports_at_start (block_at_start (disk_over disk [])) input.now allot;
           };
           pages = pages_at_boot image.now (disk_over disk []);
           key = None;

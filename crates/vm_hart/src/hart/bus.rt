@@ -2,9 +2,8 @@
 
 ghost use Rattle.std.specs.Prelude.{◌≡◌, ◌<◌, IfOk, IfSome, IsErr, IsErrOf, IsNone, None, OnErr};
 ghost use Rattle.forest_model.specs.Memory.{needs_at};
-ghost use Rattle.port_map.specs.Ranges.{place_of};
-ghost use Rattle.forest_model.specs.Ports.{port_load, port_store};
-ghost use Rattle.vm_hart.specs.Acts.{HasRead, HasStored, IsMet, PortGrows, WaitsAt};
+ghost use Rattle.port_map.specs.Bus.{place_of, port_load, port_store, WantsMemory};
+ghost use Rattle.vm_hart.specs.Acts.{HasRead, HasStored, IsMet, WaitsAt};
 
 use super::Hart;
 use fork_port::refusals::TICKETS_END;
@@ -35,7 +34,7 @@ impl Hart {
         ensures ok { IfOk result (HasStored self.old self.new address width word) }
         ensures fault { IsErrOf result PortError.Fault → port_store self.old.state.ports address width word ≡ None }
         ensures err { OnErr result (self.new ≡ self.old) }
-        ensures memory { IsErrOf result PortError.Memory → PortGrows self.old.state.ports address width word }
+        ensures memory { IsErrOf result PortError.Memory → WantsMemory self.old.state.ports address width word }
     {
         // The call tells that RAM has whole pages.
         let _ = self.memory.pages();

@@ -6,7 +6,7 @@ ghost use Rattle.rv_decode.specs.Kinds.{group_of};
 ghost use Rattle.byteorder.specs.Endian.{little_bytes};
 ghost use Rattle.forest_model.specs.Access.{reached};
 ghost use Rattle.forest_model.specs.Action.{rs2};
-ghost use Rattle.forest_model.specs.Ports.{port_load};
+ghost use Rattle.port_map.specs.Bus.{port_load};
 ghost use Rattle.forest_model.specs.Memory.{bytes_at, data_address, effect_outcome, is_byte_range, load_access, load_by, read_action, load, store, store_access, store_action, to_load, to_store, port_outcome, is_page_range, with_zeros, zeroed};
 ghost use Rattle.forest_model.specs.Footprint.{no_change, no_footprint, zeroes};
 ghost use Rattle.forest_model.specs.Paged.{pages_after};

@@ -1,8 +1,7 @@
 use Rattle.std.proofs.Common.{◌≡◌, ◌↔◌, List, ℕ, Some, None, IfOk, IsErrOf, subst, sym}
 use Rattle.port_error.specs.declared.PortError.TheVariants.{Fault}
-use Rattle.port_map.specs.Ranges.{IsAt}
-use Rattle.vm_bus.specs.Bus.{bus_over, bus_store, store_at, IsDiskPageHereAt}
-use Rattle.vm_bus.proofs.Wanting.{wants-memory}
+use Rattle.port_map.specs.Bus.{IsAt, WantsMemoryAt, port_store, store_at}
+use Rattle.vm_bus.specs.Bus.{bus_over, IsDiskPageHereAt}
 use Rattle.vm_bus.proofs.ports.Ports.store.Goals as goal
 
 pub store_at-requires : goal.store_at-requires
@@ -12,19 +11,18 @@ store_at-requires c = record {
 }
 
 pub returns-clause-ok : goal.returns-clause-ok
-unfolding bus_store
+unfolding port_store
 returns-clause-ok c =
     subst (λ p. IfOk c.store_at.result (λ effect. (below : List ℕ) → store_at p (bus_over c.args.self.now below) c.args.width c.args.word
-    ≡ Some (record { bus = bus_over c.store_at.new.self below; effect = effect })))
+    ≡ Some (record { ports = bus_over c.store_at.new.self below; effect = effect })))
     c.place_of.ensures.value c.store_at.ensures.ok
 
 pub returns-clause-fault : goal.returns-clause-fault
-unfolding bus_store
+unfolding port_store
 returns-clause-fault c = λ below.
     subst (λ p. IsErrOf c.store_at.result Fault ↔ (store_at p (bus_over c.args.self.now below) c.args.width c.args.word ≡ None)) c.place_of.ensures.value
     (c.store_at.ensures.fault below)
 
 pub returns-clause-memory : goal.returns-clause-memory
 returns-clause-memory c = λ wants below.
-    wants-memory (bus_over c.args.self.now below) c.args.address c.args.width c.args.word c.place_of.result c.place_of.ensures.value c.place_of.ensures.offset
-    (c.store_at.ensures.memory wants below)
+    subst (λ p. WantsMemoryAt p (bus_over c.args.self.now below) c.args.width c.args.word) c.place_of.ensures.value (c.store_at.ensures.memory wants below)

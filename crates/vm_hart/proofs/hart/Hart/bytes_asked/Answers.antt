@@ -1,5 +1,5 @@
 use Rattle.std.proofs.Common.{◌+◌, inl, inr, sym, ap, ◌∙◌}
-use Rattle.port_map.specs.declared.place.TheConstants.{FORK_BASE}
+use Rattle.port_map.specs.declared.TheConstants.{FORK_BASE}
 use Rattle.fork_port.specs.declared.registers.TheConstants.{FORK_COMMAND}
 use Rattle.fork_port.specs.Commands.{fork_command}
 use Rattle.forest_model.specs.Memory.{effect_outcome}

@@ -1,10 +1,10 @@
 use Rattle.std.proofs.Common.{sym, ap, ◌∙◌, subst}
 use Rattle.std.proofs.lemmas.Result.{IfOk-weaker}
 use Rattle.cow_disk.specs.Paged.{PagedDisk, here_pages}
-use Rattle.forest_model.specs.Ports.{port_load}
+use Rattle.port_map.specs.Bus.{port_load}
 use Rattle.guest_mem.specs.Ram.{IsDiskBased, disk_below}
 use Rattle.vm_hart.specs.Keyed.{KeyedState}
-use Rattle.vm_hart.proofs.Ports.{entries-stay, port-loaded, port-unloaded, ports-alone}
+use Rattle.vm_hart.proofs.Ports.{entries-stay, ports-alone}
 use Rattle.vm_hart.proofs.hart.Hart.load_port.Goals as goal
 
 pub invariant_of-self : goal.invariant_of-self
@@ -26,7 +26,7 @@ returns-clause-ok c =
     IfOk-weaker c.load.result _ _
     (λ value over. record {
       is = ap (λ (k : KeyedState). port_load k.state.ports c.args.address c.args.width) (sym c.self.view_is)
-          ∙ port-loaded h.ports below c.args.address c.args.width c.load.new.self value (over below);
+          ∙ over below;
       rest = ports-alone h.registers h.pc h.csrs h.reservation h.memory h.ports c.load.new.self (ap here_pages c.load.ensures.disk) c.args.self.now c.self.view_is;
     }) c.load.ensures.ok
 
@@ -34,4 +34,4 @@ pub returns-clause-fault : goal.returns-clause-fault
 returns-clause-fault c is_err =
     let h = c.self.inside in
     ap (λ (k : KeyedState). port_load k.state.ports c.args.address c.args.width) (sym c.self.view_is)
-    ∙ port-unloaded h.ports (disk_below h.memory.key) c.args.address c.args.width ((c.load.ensures.fault (disk_below h.memory.key)).0 is_err)
+    ∙ (c.load.ensures.fault (disk_below h.memory.key)).0 is_err

@@ -1,12 +1,11 @@
 use Rattle.std.proofs.Common.{length, refl, sym, ap, ◌∙◌, subst}
-use Rattle.port_map.specs.Ranges.{place_of}
+use Rattle.port_map.specs.Bus.{WantsMemory, place_of, port_store}
 use Rattle.guest_mem.specs.Ram.{disk_below}
-use Rattle.forest_model.specs.Ports.{port_store}
-use Rattle.vm_bus.specs.Bus.{BusParts, bus_over}
-use Rattle.vm_hart.specs.Acts.{LeavesTo, PortGrows}
+use Rattle.vm_bus.specs.Bus.{BusParts}
+use Rattle.vm_hart.specs.Acts.{LeavesTo}
 use Rattle.vm_hart.specs.Hart.{hart_of}
 use Rattle.vm_hart.specs.Keyed.{KeyedState}
-use Rattle.vm_hart.proofs.Ports.{based-stays, bus-here, entries-stay, if_ok-both, leaves-to, port-grows, port-stored, port-unstored, ports-alone}
+use Rattle.vm_hart.proofs.Ports.{based-stays, bus-here, entries-stay, if_ok-both, leaves-to, ports-alone}
 use Rattle.vm_hart.proofs.hart.Hart.store_port.Goals as goal
 
 pub store-requires-clause-here : goal.store-requires-clause-here
@@ -34,7 +33,7 @@ returns-clause-ok c =
     if_ok-both c.store.result _ _ _
     (λ effect over waits. record {
       is = ap (λ (k : KeyedState). port_store k.state.ports c.args.address c.args.width c.args.word) (sym c.self.view_is)
-          ∙ port-stored h.ports below c.args.address c.args.width c.args.word c.store.new.self effect (over below);
+          ∙ over below;
       rest = ports-alone h.registers h.pc h.csrs h.reservation h.memory h.ports c.store.new.self c.store.ensures.pages c.args.self.now c.self.view_is;
       leaves = subst (λ k. LeavesTo k (make c.store.new.self) effect) c.self.view_is (leaves-to make h.ports c.store.new.self effect (λ p. refl) waits);
     }) c.store.ensures.ok c.store.ensures.waits
@@ -43,11 +42,10 @@ pub returns-clause-fault : goal.returns-clause-fault
 returns-clause-fault c is_fault =
     let h = c.self.inside in
     ap (λ (k : KeyedState). port_store k.state.ports c.args.address c.args.width c.args.word) (sym c.self.view_is)
-    ∙ port-unstored h.ports (disk_below h.memory.key) c.args.address c.args.width c.args.word ((c.store.ensures.fault (disk_below h.memory.key)).0 is_fault)
+    ∙ (c.store.ensures.fault (disk_below h.memory.key)).0 is_fault
 
 pub returns-clause-memory : goal.returns-clause-memory
 returns-clause-memory c is_memory =
     let h = c.self.inside in
     let below = disk_below h.memory.key in
-    subst (λ (k : KeyedState). PortGrows k.state.ports c.args.address c.args.width c.args.word) c.self.view_is
-    (port-grows (bus_over h.ports below) c.args.address c.args.width c.args.word (c.store.ensures.memory is_memory below))
+    subst (λ (k : KeyedState). WantsMemory k.state.ports c.args.address c.args.width c.args.word) c.self.view_is (c.store.ensures.memory is_memory below)

@@ -1,7 +1,7 @@
 use Rattle.std.proofs.Common.{ap}
 use Rattle.std.specs.Option.{is_some}
 use Rattle.forest_model.specs.Memory.{effect_outcome, needs_at}
-use Rattle.port_map.specs.Ranges.{place_of}
+use Rattle.port_map.specs.Bus.{place_of}
 use Rattle.vm_hart.proofs.HandingOver.{met-alike, waits-alike}
 use Rattle.vm_hart.proofs.Waiting.{met-both, some-after, waits-before}
 use Rattle.vm_hart.proofs.hart.Hart.wanted_at_port.Goals as goal

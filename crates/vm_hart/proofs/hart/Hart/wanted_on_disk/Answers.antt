@@ -1,12 +1,10 @@
 use Rattle.std.proofs.Common.{◌+◌, ◌<◌, length, sym, ap, ◌∙◌, subst, arith}
-use Rattle.port_map.specs.Ranges.{place_of}
+use Rattle.port_map.specs.Bus.{disk_page_at, place_of}
 use Rattle.cow_disk.specs.Paged.{PagedDisk}
-use Rattle.vm_bus.specs.Bus.{bus_over}
 use Rattle.forest_model.specs.Memory.{needs_at, pages_on_disk}
 use Rattle.guest_mem.specs.Ram.{disk_below}
 use Rattle.vm_hart.specs.Acts.{IsMet, WaitsAt}
 use Rattle.vm_hart.specs.Keyed.{KeyedState}
-use Rattle.vm_hart.proofs.Disks.{needs-is}
 use Rattle.vm_hart.proofs.Ports.{one-met, one-waits}
 use Rattle.vm_hart.proofs.hart.Hart.wanted_on_disk.Goals as goal
 
@@ -14,8 +12,7 @@ pub returns-in_default-clause-none : goal.returns-in_default-clause-none
 returns-in_default-clause-none c none =
     let s = c.args.self.now.state in
     let below = disk_below c.self.inside.memory.key in
-    let needs = needs-is (place_of c.args.address) (bus_over c.self.inside.ports below) c.args.width c.args.word s
-    (ap (λ (k : KeyedState). k.state.ports.block) (sym c.self.view_is)) in
+    let needs = ap (λ (k : KeyedState). pages_on_disk s (disk_page_at (place_of c.args.address) k.state.ports c.args.width c.args.word)) (sym c.self.view_is) in
     let touched = sym (c.touched.ensures.value below) ∙ c.in_default.is in
     subst (λ pages. IsMet pages c.args.self.now.pages) (sym (needs ∙ ap (pages_on_disk s) touched)) tt
 
