@@ -85,6 +85,8 @@ pub fn run_hosts<R: AllocGlobal + Threads + Wait + Sync, W: Wire + Send, G: Gate
 }
 
 /// How many workers may run at once, of so many. One has no use for the answer, which is read from files of the system.
+// Apart from `run_hosts`: to read a file takes 8 KB of the stack, which the workers' runs would have below them.
+#[inline(never)]
 fn processors<R: Threads>(rt: &R, workers: usize) -> usize {
     if workers == 1 {
         return 1;
@@ -97,6 +99,8 @@ fn processors<R: Threads>(rt: &R, workers: usize) -> usize {
 
 /// The states of so many workers, and what is left of the pass to claim by. Each has a pass that is split off from that one, and
 /// each but the last one that is split off from the other.
+// Apart from `run_hosts`, which else has room for the states three times.
+#[inline(never)]
 fn deal(
     board: &Board,
     pass: Pass,

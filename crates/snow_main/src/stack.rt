@@ -5,7 +5,7 @@ use std::io::Read;
 use std::rt::Files;
 
 /// The least stack on which families are run by 64 workers, in bytes.
-const LEAST_STACK: u64 = 65_536;
+const LEAST_STACK: u64 = 40_960;
 
 /// Where Linux tells what a process may take.
 const LIMITS: &str = "/proc/self/limits";
