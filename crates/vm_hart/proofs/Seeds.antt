@@ -21,7 +21,7 @@ use Rattle.block_port.specs.Block.{at_start}
 use Rattle.port_map.specs.Bus.{ports_at_start, ports_of_fields}
 use Rattle.vm_hart.specs.Hart.{IsWordOf, hart_of}
 use Rattle.vm_hart.specs.Keyed.{KeyedState}
-use Rattle.vm_hart.specs.Seeds.{IsBlankMap, port_fields, woken_hart}
+use Rattle.vm_hart.specs.Seeds.{IsBlankMap, block_on, port_fields, woken_hart}
 use Rattle.vm_hart.proofs.Disks.{absent-flags, booted-pages}
 
 pub length-cleared : (blank : List Bool) (memory : List ℕ) → length (cleared blank memory) ≡ PAGE_SIZE * length blank
