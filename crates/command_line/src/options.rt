@@ -4,6 +4,7 @@
 use elf_load::{MAX_PAGES, MIN_PAGES};
 use host_fetch::MAX_AHEAD;
 use vm_descriptor::{MAX_CLONES, MAX_LIMIT};
+use wire_fates::MAX_WIRES;
 
 /// What is said of words that have no meaning: what each subcommand takes and does, and a line for each option, with the least
 /// number, the most and the default. The last line has no end.
@@ -126,7 +127,7 @@ pub(crate) const AHEAD_OPTION: NumberOption = NumberOption {
 /// The workers, and so the machines that run at one time.
 pub const WORKERS: Limits = Limits {
     least: 1,
-    most: 64,
+    most: MAX_WIRES as u32,
     default: 1,
 };
 

@@ -19,11 +19,11 @@ use std::marker::{Send, Sync};
 use std::mem;
 use std::sync::Wait;
 use std::thread::{self, Threads, join_mut};
-use wire_fates::Wire;
+use wire_fates::{MAX_WIRES, Wire};
 use world_core::Reason;
 
-/// The most workers of a board.
-pub const MAX_WORKERS: usize = 64;
+/// The most workers of a board, of which each has a wire.
+pub const MAX_WORKERS: usize = MAX_WIRES;
 
 /// The end of two, of whom each came to one.
 fn finish_of(first: Finish, second: Finish) -> Finish

@@ -30,6 +30,7 @@ use rv_traps::TIMER_INTERRUPT;
 use sibling_port::Talk;
 use std::alloc::{AllocError, Global};
 use std::marker::Model;
+use vm_descriptor::{MAX_CLONES, MAX_LIMIT};
 use vm_hart::{Acted, Hart, Request};
 
 mod fork;
@@ -133,8 +134,8 @@ impl Vm {
     ) -> Result<Vm, AllocError>
         requires input_fits { length input.now ≤ MAX_INPUT }
         requires least { 1 ≤ options.limit }
-        requires most { options.limit ≤ 1_000_000_000 }
-        requires allot { options.allot ≤ 4096 }
+        requires most { options.limit ≤ MAX_LIMIT }
+        requires allot { options.allot ≤ MAX_CLONES }
         requires disk_whole { IsWholeDisk disk }
         ensures { IfOk result (λ vm. vm ≡ record { machine = boot image.now (disk_over disk []) input.now options; pages = pages_at_boot image.now (disk_over disk []); key = None }) }
     {
@@ -697,7 +698,7 @@ fn end(
     ending: &mut Option<Ending>,
 )
     requires readable { IsReadable hart.old address number }
-    requires steps { steps.old ≤ 1_000_000_000 }
+    requires steps { steps.old ≤ MAX_LIMIT }
     ensures hart { hart.new ≡ record hart.old { state = count true Written.Nothing hart.old.state } }
     ensures steps { steps.new ≡ steps.old + 1 }
     ensures ending { ending.new ≡ Some (Ending.Exit value (handed_of (bytes_at address number hart.old.state))) }

@@ -10,4 +10,4 @@ mod wire;
 pub use fate::{Fate, LONGEST_STREAK};
 pub use scripted::Scripted;
 pub use seeded::{MAX_SEEDED_STREAK, Seeded};
-pub use wire::Wire;
+pub use wire::{MAX_WIRES, Wire};

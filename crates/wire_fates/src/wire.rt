@@ -4,6 +4,9 @@ ghost use Rattle.wire_fates.specs.Fates.{IsAmong, seeded_with, streak_after};
 
 use crate::fate::{Fate, LONGEST_STREAK};
 
+/// The most wires over which a family is run. Each has a worker of its own, so these are the most workers, too.
+pub const MAX_WIRES: usize = 64;
+
 /// What tells the fates of replies.
 pub trait Wire {
     /// How many fates it has told since it last gave a reply, 64 at most.
