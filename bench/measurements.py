@@ -42,10 +42,15 @@ def image(folder, words):
     return path
 
 
-def interpreter(folder):
-    """Returns the path of the plain interpreter, which is built where there is a C compiler, or None."""
+def compiled(folder, name, *options):
+    """Returns the path of a program in C of this folder, which is built where there is a C compiler, or None."""
     compiler = shutil.which("cc") or shutil.which("gcc")
     if compiler is None:
         return None
-    subprocess.run([compiler, "-O2", "-o", f"{folder}/interpreter", f"{ROOT}/bench/interpreter.c"], check=True)
-    return f"{folder}/interpreter"
+    subprocess.run([compiler, "-O2", *options, "-o", f"{folder}/{name}", f"{ROOT}/bench/{name}.c"], check=True)
+    return f"{folder}/{name}"
+
+
+def interpreter(folder):
+    """Returns the path of the plain interpreter, or None."""
+    return compiled(folder, "interpreter")
